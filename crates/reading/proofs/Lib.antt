@@ -1,0 +1,4 @@
+pub mod FirstLaws
+pub mod Ranges
+pub mod Answering
+pub mod MachineLaws

@@ -1,0 +1,7 @@
+pub mod Firsts
+pub mod Bytes
+pub mod Faults
+pub mod MachineSheets
+pub mod Records
+pub mod Phases
+pub mod PhaseTables

@@ -1,0 +1,5 @@
+mod bytes;
+pub mod faults;
+pub mod machine_sheet;
+pub mod phase_table;
+pub mod records;

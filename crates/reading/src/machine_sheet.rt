@@ -1,0 +1,21 @@
+mod read;
+
+/// A machine sheet that was read: its sizes, and the parts of the bytes that hold labels, keys and targets.
+#[derive(Clone, Copy)]
+pub struct MachineSheet<'a> {
+    states: u16,
+    own: u8,
+    partner: u8,
+    start: u16,
+    moves: u16,
+    labels: &'a [u8],
+    keys: &'a [u8],
+    targets: &'a [u8],
+}
+
+/// A move as a sheet lists it: the key is (state × own signals + own) × partner signals + partner.
+#[derive(Clone, Copy, PartialEq, Eq, Debug)]
+pub struct Move {
+    pub key: u16,
+    pub target: u16,
+}
