@@ -2,13 +2,13 @@
 use mathlib.Core.Path.{_≡_, refl, sym, _∙_, ap}
 use mathlib.Core.Bool.{Bool, true, false, _||_}
 use mathlib.Core.Logic.{_⊎_, inl, inr}
-use Prim.Native.Nat.{ℕ, zero, suc, _+_, _≤_, _<_}
+use Prim.Native.Nat.{ℕ, zero, suc, _+_, _≤_, _<_, max}
 use native.Mathlib.Numerals.{add-one}
 use native.Mathlib.Omega.{arith}
 use Rattle.std.proofs.shelf.Tests.{cases-lt, or-left, or-right, or-cases, or-from}
 use Rattle.std.specs.declared.option.Option.{Option}
 use Rattle.std.specs.declared.option.Option.the-variants.{Some, None}
-use Rattle.reading.specs.Firsts.{first-of, first-below, unless, some-below}
+use Rattle.reading.specs.Firsts.{first-of, first-below, unless, some-below, highest-below}
 
 pub not-some : {A : Type 0} {x : A} → _≡_ {A = Option A} (Some x) None → ⊥
 not-some e = let z : _≡_ {A = ℕ} 0 1 = cc in omega arith
@@ -95,3 +95,7 @@ tests-more i f e h = rw (add-one, e) h
 -- the end of a loop
 pub same-end : {A : Type 0} (i n : ℕ) (f : ℕ → Option A) → i ≡ n → first-below i f ≡ None → None ≡ first-below n f
 same-end i n f q e = sym (rw q at e)
+
+-- one more turn of a loop that looks for the largest
+pub highest-more : (i : ℕ) (f : ℕ → ℕ) (b x r : ℕ) → b ≡ highest-below i f → x ≡ f i → r ≡ max b x → r ≡ highest-below (i + 1) f
+highest-more i f b x r e h m = rw add-one (omega arith)

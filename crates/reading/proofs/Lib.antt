@@ -1,4 +1,10 @@
 pub mod FirstLaws
 pub mod Ranges
 pub mod Answering
+pub mod Padding
+pub mod Bits
+pub mod PhaseLaws
+pub mod RuleLaws
+pub mod MarkLaws
 pub mod MachineLaws
+pub mod RecordLaws

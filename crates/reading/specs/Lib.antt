@@ -2,6 +2,9 @@ pub mod Firsts
 pub mod Bytes
 pub mod Faults
 pub mod MachineSheets
-pub mod Records
+pub mod Marks
+pub mod MarkSheets
 pub mod Phases
+pub mod RuleSheets
 pub mod PhaseTables
+pub mod Records

@@ -8,7 +8,7 @@ use lib.ListN.{length, drop, replicate}
 use Rattle.std.specs.declared.option.Option.{Option}
 use Rattle.reading.specs.declared.phase_table.PhaseTable.{PhaseTable}
 use Rattle.reading.specs.Firsts.{first-of, first-below, unless}
-use Rattle.reading.specs.Bytes.{byte, within}
+use Rattle.reading.specs.Bytes.{byte, within, padded}
 use Rattle.reading.specs.Faults.{Fault, fault, length-place}
 
 -- what a phase table says; its entries lie in 128 bytes, zeros behind the last
@@ -17,9 +17,6 @@ pub record Table : Type 0 where
   pub signals0 : ℕ
   pub signals1 : ℕ
   pub entries : List ℕ
-
-abbrev pub padded : ℕ → List ℕ → List ℕ
-padded n xs = xs ++ replicate (n - length xs) 0
 
 -- the table that bytes hold
 abbrev pub table-in : List ℕ → Table

@@ -1,7 +1,10 @@
 ghost use mathlib.Core.Path.{_≡_};
-ghost use Prim.Native.Nat.{_+_, _*_, _<_, _^_, min};
-ghost use lib.ListN.{length};
-ghost use Rattle.reading.specs.Bytes.{byte, pair};
+ghost use Prim.Native.Nat.{_+_, _*_, _<_, _≤_, _^_, min};
+ghost use mathlib.Core.List.{_++_};
+ghost use lib.ListN.{length, drop};
+ghost use mathlib.Core.Bool.{not};
+ghost use lib.Dec.{ltb};
+ghost use Rattle.reading.specs.Bytes.{byte, pair, bit};
 ghost use Rattle.reading.specs.Faults.{length-place};
 
 /// Two bytes as a number, the low byte first.
@@ -20,10 +23,13 @@ pub fn byte_at(bytes: &[u8], i: usize) -> u8
 
 /// A two-byte number, the low byte first; bytes past the end are 0.
 pub fn pair_at(bytes: &[u8], i: usize) -> u16
-    requires { ⌜ i < 2 ^ 32 ⌝ }
     ensures { λ r. ⌜ r ≡ pair (now (bytes .entry)) i ⌝ }
 {
-    two_bytes(byte_at(bytes, i), byte_at(bytes, i + 1))
+    if i < bytes.len() {
+        two_bytes(bytes[i], byte_at(bytes, i + 1))
+    } else {
+        0
+    }
 }
 
 /// The length as a place: at most 65,535.
@@ -31,4 +37,28 @@ pub fn length_place(bytes: &[u8]) -> u16
     ensures { λ r. ⌜ r ≡ length-place (now (bytes .entry)) ⌝ }
 {
     bytes.len().min(65535) as u16
+}
+
+/// Whether a byte has a bit.
+pub fn has_bit(x: u8, i: u8) -> bool
+    requires { ⌜ i < 8 ⌝ }
+    ensures { λ r. ⌜ r ≡ bit x i ⌝ }
+{
+    (x >> i) % 2 == 1
+}
+
+/// Whether a byte has a bit from `room` up.
+pub fn strays(x: u8, room: u16) -> bool
+    ensures { λ r. ⌜ r ≡ not (ltb x (2 ^ room)) ⌝ }
+{
+    room < 8 && x >> room != 0
+}
+
+/// Copies bytes to the front of a buffer.
+pub fn put_front(buffer: &mut [u8], part: &[u8])
+    requires { ⌜ length (now part) ≤ length (now buffer) ⌝ }
+    ensures { λ _. ⌜ now (buffer .exit) ≡ now (part .entry) ++ drop (length (now (part .entry))) (now (buffer .entry)) ⌝ }
+{
+    let size = part.len();
+    buffer[0..size].copy_from_slice(part);
 }

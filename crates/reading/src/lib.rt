@@ -1,5 +1,7 @@
 mod bytes;
 pub mod faults;
 pub mod machine_sheet;
+pub mod mark_sheet;
 pub mod phase_table;
 pub mod records;
+pub mod rule_sheet;

@@ -1,3 +1,4 @@
+use crate::bytes::byte_at;
 use crate::bytes::length_place;
 use crate::bytes::pair_at;
 use crate::bytes::two_bytes;
@@ -13,6 +14,7 @@ ghost use Rattle.std.specs.Vec.{made};
 ghost use Rattle.std.specs.Orderings.{Decides};
 ghost use Rattle.std.specs.declared.option.Option.the-variants.{Some, None};
 ghost use Rattle.reading.specs.Firsts.{first-below};
+ghost use Rattle.reading.specs.Bytes.{byte};
 ghost use Rattle.reading.specs.Faults.{numbers, told, told-some};
 ghost use Rattle.reading.specs.MachineSheets.{sheet-in, sheet-of, key-at, target-at, before, field-fault, label-fault, move-fault, head-fault, machine-fault, Shaped, Headed, Lawful};
 
@@ -108,6 +110,48 @@ impl<'a> MachineSheet<'a> {
             return Err(fault);
         }
         Ok(sheet)
+    }
+
+    /// How many states the machine has.
+    pub fn states(&self) -> u16
+        ensures { λ r. ⌜ r ≡ sheet-of (now (self .entry)) .states ⌝ }
+    {
+        self.states
+    }
+
+    /// How many signals it can show.
+    pub fn own(&self) -> u8
+        ensures { λ r. ⌜ r ≡ sheet-of (now (self .entry)) .own ⌝ }
+    {
+        self.own
+    }
+
+    /// How many signals its partner can show.
+    pub fn partner(&self) -> u8
+        ensures { λ r. ⌜ r ≡ sheet-of (now (self .entry)) .partner ⌝ }
+    {
+        self.partner
+    }
+
+    /// The state that it starts in.
+    pub fn start(&self) -> u16
+        ensures { λ r. ⌜ r ≡ sheet-of (now (self .entry)) .start ⌝ }
+    {
+        self.start
+    }
+
+    /// How many moves the sheet lists.
+    pub fn moves(&self) -> u16
+        ensures { λ r. ⌜ r ≡ sheet-of (now (self .entry)) .moves ⌝ }
+    {
+        self.moves
+    }
+
+    /// The label of a state; 0 out of range.
+    pub fn label(&self, state: u16) -> u8
+        ensures { λ r. ⌜ r ≡ byte (sheet-of (now (self .entry)) .labels) state ⌝ }
+    {
+        byte_at(self.labels, state as usize)
     }
 
     /// A move by its place in the list; zeros past the last.

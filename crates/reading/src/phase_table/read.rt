@@ -1,5 +1,6 @@
 use crate::bytes::byte_at;
 use crate::bytes::length_place;
+use crate::bytes::put_front;
 use crate::faults::ReadFault;
 use crate::phase_table::PhaseTable;
 ghost use mathlib.Core.Path.{_≡_};
@@ -52,15 +53,14 @@ fn parse(bytes: &[u8]) -> Result<PhaseTable, ReadFault>
     if let Some(fault) = field_fault(*phases, *signals0, *signals1) {
         return Err(fault);
     }
-    let size = *phases as usize * *signals0 as usize * *signals1 as usize;
-    if rest.len() != size {
+    if rest.len() != *phases as usize * *signals0 as usize * *signals1 as usize {
         return Err(ReadFault::Size(length_place(bytes)));
     }
     if let Some(fault) = entry_fault(rest, *phases) {
         return Err(fault);
     }
     let mut entries = [0; 128];
-    entries[0..size].copy_from_slice(rest);
+    put_front(&mut entries, rest);
     Ok(PhaseTable {
         phases: *phases,
         signals0: *signals0,

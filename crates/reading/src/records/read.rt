@@ -5,14 +5,14 @@ use crate::bytes::two_bytes;
 use crate::faults::ReadFault;
 use crate::records::Record;
 ghost use mathlib.Core.Path.{_≡_};
-ghost use Prim.Native.Nat.{_≤_};
+ghost use Prim.Native.Nat.{_≤_, _<_, _^_};
 ghost use lib.ListN.{length};
 ghost use Rattle.std.specs.Results.{isOk};
 ghost use Rattle.std.specs.Vec.{made};
 ghost use Rattle.std.specs.Orderings.{Decides};
 ghost use Rattle.reading.specs.Firsts.{first-below};
 ghost use Rattle.reading.specs.Faults.{told, told-some};
-ghost use Rattle.reading.specs.Records.{parts-in, parts-of, inside, choice-at, rank-at, kept, bound-of, field-fault, choice-fault, record-fault, Lawful};
+ghost use Rattle.reading.specs.Records.{parts-in, parts-of, inside, choice-at, rank-at, kept-rank, bound-of, field-fault, choice-fault, record-fault, Lawful};
 
 /// The first size out of range.
 fn field_fault(states: u16, phases: u8, signals: u8) -> Option<ReadFault>
@@ -142,16 +142,25 @@ impl<'a> Record<'a> {
         )
     }
 
+    /// The rank at a place, or 0 where the position is not kept.
+    fn kept_rank(&self, place: usize) -> u16
+        requires { ⌜ place < 2 ^ 32 ⌝ }
+        ensures { λ r. ⌜ r ≡ kept-rank (parts-of (now (self .entry))) place ⌝ }
+    {
+        let rank = pair_at(self.ranks, 2 * place);
+        if byte_at(self.choices, place) == 255 && rank == 65535 {
+            return 0;
+        }
+        rank
+    }
+
     /// The largest kept rank, reached or not; 0 where nothing is kept.
     pub fn bound(&self) -> u16
         ensures { λ r. ⌜ r ≡ bound-of (parts-of (now (self .entry))) ⌝ }
     {
         let mut best: u16 = 0;
-        for i in 0..self.states as usize * self.phases as usize {
-            let rank = pair_at(self.ranks, 2 * i);
-            if byte_at(self.choices, i) != 255 || rank != 65535 {
-                best = best.max(rank);
-            }
+        for place in 0..self.states as u32 * self.phases as u32 {
+            best = best.max(self.kept_rank(place as usize));
         }
         best
     }

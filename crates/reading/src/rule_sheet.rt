@@ -1,0 +1,19 @@
+mod read;
+
+ghost use Prim.Native.Nat.{_≤_, _<_, _^_};
+ghost use Rattle.reading.specs.Phases.{Closed};
+
+/// A rule sheet that was read: a deterministic Büchi automaton over labels, and the labels that are forbidden.
+#[derive(Clone, Copy)]
+pub struct RuleSheet {
+    states: u8,
+    accepting: u8,
+    forbidden: u8,
+    start: u8,
+    next: [u8; 64],
+    ghost some_states: { 1 ≤ states },
+    ghost few_states: { states ≤ 8 },
+    ghost accepts: { accepting < 2 ^ states },
+    ghost starts: { start < states },
+    ghost closed: { Closed states next },
+}

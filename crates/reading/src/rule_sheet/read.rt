@@ -1,0 +1,120 @@
+use crate::bytes::has_bit;
+use crate::bytes::length_place;
+use crate::bytes::put_front;
+use crate::bytes::strays;
+use crate::faults::ReadFault;
+use crate::rule_sheet::RuleSheet;
+ghost use mathlib.Core.Path.{_≡_};
+ghost use mathlib.Core.Bool.{_&&_};
+ghost use Prim.Native.Nat.{_≤_};
+ghost use lib.Dec.{ltb};
+ghost use lib.ListN.{length};
+ghost use Rattle.std.specs.Results.{isOk};
+ghost use Rattle.std.specs.Vec.{made};
+ghost use Rattle.std.specs.Orderings.{Decides};
+ghost use Rattle.reading.specs.Firsts.{first-below};
+ghost use Rattle.reading.specs.Bytes.{bit};
+ghost use Rattle.reading.specs.Faults.{told, told-some};
+ghost use Rattle.reading.specs.RuleSheets.{automaton-in, automaton-of, next-state, field-fault, next-fault, rule-fault, Lawful};
+
+/// The first field out of range.
+fn field_fault(states: u8, accepting: u8, start: u8) -> Option<ReadFault>
+    ensures { λ r. ⌜ told-some r ≡ field-fault states accepting start ⌝ }
+{
+    if states < 1 || states > 8 {
+        return Some(ReadFault::Field(0));
+    }
+    if strays(accepting, states as u16) {
+        return Some(ReadFault::Field(1));
+    }
+    if start >= states {
+        return Some(ReadFault::Field(3));
+    }
+    None
+}
+
+/// The first next state that is no state.
+fn next_fault(next: &[u8], states: u8) -> Option<ReadFault>
+    requires { ⌜ length (now next) ≤ 64 ⌝ }
+    ensures { λ r. ⌜ told-some r ≡ first-below (length (now (next .entry))) (next-fault (now (next .entry)) states) ⌝ }
+{
+    for (i, state) in next.iter().enumerate() {
+        if *state >= states {
+            return Some(ReadFault::Entry(4 + i as u16));
+        }
+    }
+    None
+}
+
+impl RuleSheet {
+    /// The automaton in the bytes, for a machine of so many states, or the first fault.
+    pub fn read(bytes: &[u8], states: u16) -> Result<RuleSheet, ReadFault>
+        ensures first { λ r. ⌜ told r ≡ rule-fault states (now (bytes .entry)) ⌝ }
+        ensures value { λ r. ⌜ made r (λ a. automaton-of a ≡ automaton-in (now (bytes .entry))) ⌝ }
+        ensures lawful { λ r. ⌜ Decides (isOk r) (Lawful states (now (bytes .entry))) ⌝ }
+    {
+        let [count, accepting, forbidden, start, rest @ ..] = bytes else {
+            return Err(ReadFault::Short(length_place(bytes)));
+        };
+        if let Some(fault) = field_fault(*count, *accepting, *start) {
+            return Err(fault);
+        }
+        if rest.len() != 8 * *count as usize {
+            return Err(ReadFault::Size(length_place(bytes)));
+        }
+        if let Some(fault) = next_fault(rest, *count) {
+            return Err(fault);
+        }
+        if states as u32 * *count as u32 > 256 {
+            return Err(ReadFault::TooLarge);
+        }
+        let mut next = [0; 64];
+        put_front(&mut next, rest);
+        Ok(RuleSheet {
+            states: *count,
+            accepting: *accepting,
+            forbidden: *forbidden,
+            start: *start,
+            next,
+        })
+    }
+
+    /// How many states the automaton has.
+    pub fn states(&self) -> u8
+        ensures { λ r. ⌜ r ≡ automaton-of (now (self .entry)) .states ⌝ }
+    {
+        self.states
+    }
+
+    /// The automaton's start.
+    pub fn start(&self) -> u8
+        ensures { λ r. ⌜ r ≡ automaton-of (now (self .entry)) .start ⌝ }
+    {
+        self.start
+    }
+
+    /// Whether a state of the automaton is accepting.
+    pub fn accepting(&self, state: u8) -> bool
+        ensures { λ r. ⌜ r ≡ (ltb state 8 && bit (automaton-of (now (self .entry)) .accepting) state) ⌝ }
+    {
+        state < 8 && has_bit(self.accepting, state)
+    }
+
+    /// Whether a label is forbidden.
+    pub fn forbidden(&self, label: u8) -> bool
+        ensures { λ r. ⌜ r ≡ (ltb label 8 && bit (automaton-of (now (self .entry)) .forbidden) label) ⌝ }
+    {
+        label < 8 && has_bit(self.forbidden, label)
+    }
+
+    /// The state after a state and a label; 0 where one of them is out of range.
+    pub fn next(&self, state: u8, label: u8) -> u8
+        ensures { λ r. ⌜ r ≡ next-state (automaton-of (now (self .entry))) state label ⌝ }
+    {
+        if state < self.states && label < 8 {
+            self.next[8 * state as usize + label as usize]
+        } else {
+            0
+        }
+    }
+}
