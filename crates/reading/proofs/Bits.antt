@@ -66,4 +66,14 @@ no-bits x l h = elim (cases-lt 0 x) [ inl p ↦ (let t = top-bit x p l in absurd
 
 -- two numbers share a bit exactly if both have it
 pub bit-and : (x y i : ℕ) → bit (bitAnd x y) i ≡ (bit x i && bit y i)
-bit-and x y i = ?
+bit-and x y i =
+    let shared : bitAnd x y / 2 ^ i % 2 ≡ bitAnd (x / 2 ^ i % 2) (y / 2 ^ i % 2) = ap (λ z. z % 2) (and-shr x y i) ∙ and-mod (x / 2 ^ i) (y / 2 ^ i) 1 in
+    ap (λ z. eqb z 1) shared ∙ two (x / 2 ^ i % 2) (y / 2 ^ i % 2) (mod-below (x / 2 ^ i) 2 (omega arith)) (mod-below (y / 2 ^ i) 2 (omega arith))
+  where
+    two : (a b : ℕ) → a < 2 → b < 2 → eqb (bitAnd a b) 1 ≡ (eqb a 1 && eqb b 1)
+    two zero zero h l = refl
+    two zero (suc b) h l = refl
+    two (suc zero) zero h l = refl
+    two (suc zero) (suc zero) h l = refl
+    two (suc zero) (suc (suc b)) h l = absurd (omega arith)
+    two (suc (suc a)) b h l = absurd (omega arith)

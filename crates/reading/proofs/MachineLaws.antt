@@ -47,7 +47,14 @@ fields-to n k m start moves f =
 -- a sheet by its parts
 abbrev sheet : ℕ → ℕ → ℕ → ℕ → ℕ → List ℕ → List ℕ → List ℕ → Sheet
 sheet n k m start moves labels keys targets = record {
-  states = n; own = k; partner = m; start = start; moves = moves; labels = labels; keys = keys; targets = targets;
+  states = n;
+  own = k;
+  partner = m;
+  start = start;
+  moves = moves;
+  labels = labels;
+  keys = keys;
+  targets = targets;
 }
 
 -- cutting bytes whose fields and length are right gives the sheet that they hold

@@ -32,9 +32,25 @@ ghost-result c =
     let xs = c .args .bytes .now in
     let rest : List ℕ = take (length xs - 3) (drop 3 xs) in
     let f = fields-from _ _ _ (c .in-rest-field-fault .ensures tt) in
-    let held = c .put-front .ensures ∙ front-of-zeros 128 rest in
-    (f .phases .0, (f .phases .1, (f .signals0 .0, (f .signals0 .1, (f .signals1 .0, (f .signals1 .1,
-    (closed-from 128 _ rest _ held (f .phases .0) (entries-below rest _ (c .in-rest-entry-fault .ensures tt)), tt)))))))
+    let held = c .put-front .ensures ∙ front-of-zeros 128 rest in (
+      f .phases .0,
+      (
+        f .phases .1,
+        (
+          f .signals0 .0,
+          (
+            f .signals0 .1,
+            (
+              f .signals1 .0,
+              (
+                f .signals1 .1,
+                (closed-from 128 _ rest _ held (f .phases .0) (entries-below rest _ (c .in-rest-entry-fault .ensures tt)), tt),
+              ),
+            ),
+          ),
+        ),
+      ),
+    )
 
 pub returns : need.returns
 returns c =

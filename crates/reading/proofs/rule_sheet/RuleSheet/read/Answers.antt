@@ -43,9 +43,19 @@ ghost-result c =
     let xs = c .args .bytes .now in
     let rest : List ℕ = take (length xs - 4) (drop 4 xs) in
     let f = fields-from _ _ _ (c .in-rest-field-fault .ensures tt) in
-    let held = c .put-front .ensures ∙ front-of-zeros 64 rest in
-    (f .states .0, (f .states .1, (f .accepts, (f .starts,
-    (closed-from 64 _ rest _ held (f .states .0) (next-below rest _ (c .in-rest-next-fault .ensures tt)), tt)))))
+    let held = c .put-front .ensures ∙ front-of-zeros 64 rest in (
+      f .states .0,
+      (
+        f .states .1,
+        (
+          f .accepts,
+          (
+            f .starts,
+            (closed-from 64 _ rest _ held (f .states .0) (next-below rest _ (c .in-rest-next-fault .ensures tt)), tt),
+          ),
+        ),
+      ),
+    )
 
 pub returns : need.returns
 returns c =
