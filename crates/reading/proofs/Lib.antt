@@ -1,5 +1,6 @@
 pub mod FirstLaws
 pub mod Ranges
+pub mod EntryLaws
 pub mod Answering
 pub mod Padding
 pub mod Bits

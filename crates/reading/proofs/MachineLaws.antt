@@ -13,8 +13,9 @@ use Rattle.std.specs.declared.option.Option.the-variants.{Some, None}
 use Rattle.reading.specs.Firsts.{first-of, first-below, unless}
 use Rattle.reading.specs.Bytes.{byte, pair, within}
 use Rattle.reading.specs.Faults.{Fault, fault, length-place}
-use Rattle.reading.specs.MachineSheets.{key-place, target-place, Sheet, sheet-in, field-fault, head-fault, Shaped, Headed, Ranged, Listed, Lawful, Before, before, key-at, target-at, label-fault, move-fault, body-fault, machine-fault}
+use Rattle.reading.specs.MachineSheets.{key-place, target-place, Sheet, sheet-in, field-fault, head-fault, Shaped, Headed, Ranged, Listed, Lawful, Before, before, key-at, target-at, move-fault, body-fault, machine-fault}
 use Rattle.reading.proofs.FirstLaws.{none-left, none-right, of-none, of-left, of-right, none-unless, unless-none, none-below, below-none, not-true}
+use Rattle.reading.proofs.EntryLaws.{entries-below, below-entries}
 use Rattle.reading.proofs.Ranges.{from-within, to-within}
 
 pub fields-from : (n k m start moves : ℕ) → field-fault n k m start moves ≡ None → Ranged n k m start moves
@@ -131,10 +132,9 @@ module _ (s : Sheet) where
 
   listed-from : body-fault s ≡ None → Listed s
   listed-from e =
-      let ls = none-below _ _ (none-left _ _ e) in
       let ms = none-below _ _ (none-right _ _ e) in
       record {
-        labels = λ i l. leb-true _ _ (none-unless _ _ (ls i l));
+        labels = λ i l. omega (arith, entries-below (s .labels) 8 8 (none-left _ _ e) i l);
         keys = λ i l. move-from i (ms i l) .0;
         targets = λ i l. move-from i (ms i l) .1;
         ascending = ascends (λ i l. neighbours i (ms (suc i) l));
@@ -148,7 +148,7 @@ module _ (s : Sheet) where
 
   listed-to : Listed s → body-fault s ≡ None
   listed-to h =
-      of-none _ _ (below-none _ _ (λ i l. unless-none _ _ (le-leb _ _ (h .labels i l))))
+      of-none _ _ (below-entries (s .labels) 8 8 (λ i l. omega (arith, h .labels i l)))
       (below-none _ _ (λ i l.
       of-none _ _ (unless-none _ _ (lt-ltb _ _ (h .keys i l)))
       (of-none _ _ (unless-none _ _ (lt-ltb _ _ (h .targets i l)))

@@ -11,9 +11,10 @@ use Rattle.std.specs.declared.option.Option.{Option}
 use Rattle.std.specs.declared.option.Option.the-variants.{Some, None}
 use Rattle.reading.specs.Firsts.{first-of, first-below, unless}
 use Rattle.reading.specs.Bytes.{byte, padded}
-use Rattle.reading.specs.Faults.{Fault, fault, length-place}
-use Rattle.reading.specs.PhaseTables.{Table, table-in, size-in, field-fault, entry-fault, head-fault, phase-fault, Lawful}
+use Rattle.reading.specs.Faults.{Fault, fault, length-place, entry-fault}
+use Rattle.reading.specs.PhaseTables.{Table, table-in, size-in, field-fault, head-fault, phase-fault, Lawful}
 use Rattle.reading.proofs.FirstLaws.{none-left, none-right, of-none, of-right, none-unless, unless-none, none-below, below-none}
+use Rattle.reading.proofs.EntryLaws.{entries-below, below-entries}
 use Rattle.reading.proofs.Ranges.{from-within, to-within}
 
 pub record Ranged (p k0 k1 : ℕ) : Type 0 where
@@ -39,16 +40,11 @@ few-entries p k0 k1 e =
 
 -- past fields and length, the first fault is that of the entries
 pub entries-next : (xs rest : List ℕ) → 3 ≤ length xs → None ≡ field-fault (byte xs 0) (byte xs 1) (byte xs 2)
-    → rest ≡ drop 3 xs → length rest ≡ size-in xs → first-below (length rest) (entry-fault rest (byte xs 0)) ≡ phase-fault xs
+    → rest ≡ drop 3 xs → length rest ≡ size-in xs → first-below (length rest) (entry-fault rest (byte xs 0) 3) ≡ phase-fault xs
 entries-next xs rest l e hr q =
     let long : length xs ≡ 3 + size-in xs = omega (arith, length-drop 3 xs, ap length hr) in
-    ap (λ n. first-below n (entry-fault rest (byte xs 0))) q
-    ∙ ap (λ ys. first-below (size-in xs) (entry-fault ys (byte xs 0))) hr
+    ap (λ ys. first-below (length ys) (entry-fault ys (byte xs 0) 3)) hr
     ∙ sym (of-right (head-fault xs) _ (of-none _ _ (unless-none _ _ (le-leb 3 _ l)) (of-none _ _ (sym e) (unless-none _ _ (eq-eqb _ _ long)))))
-
--- entries without a fault are phases
-pub entries-below : (entries : List ℕ) (p : ℕ) → None ≡ first-below (length entries) (entry-fault entries p) → (i : ℕ) → i < length entries → getD entries i 0 < p
-entries-below entries p e i l = ltb-true _ _ (none-unless _ _ (none-below _ _ (sym e) i l))
 
 pub lawful-from : (xs : List ℕ) → phase-fault xs ≡ None → Lawful xs
 lawful-from xs e =
@@ -56,7 +52,6 @@ lawful-from xs e =
     let h = none-left (head-fault xs) _ e in
     let r = none-right short _ h in
     let f = fields-from _ _ _ (sym (none-left _ _ r)) in
-    let es = none-below _ _ (none-right (head-fault xs) _ e) in
     record {
       fixed = leb-true 3 _ (none-unless _ _ (none-left short _ h));
       some-phases = f .phases .0;
@@ -66,7 +61,7 @@ lawful-from xs e =
       some1 = f .signals1 .0;
       few1 = f .signals1 .1;
       long = eqb-true _ _ (none-unless _ _ (none-right _ _ r));
-      entries = λ i l. ltb-true _ _ (none-unless _ _ (es i l));
+      entries = entries-below (drop 3 xs) (byte xs 0) 3 (none-right (head-fault xs) _ e);
     }
 
 pub lawful-to : (xs : List ℕ) → Lawful xs → phase-fault xs ≡ None
@@ -78,7 +73,7 @@ lawful-to xs w =
     (of-none _ _ (unless-none _ _ (to-within 1 4 _ (w .some0) (w .few0)))
     (unless-none _ _ (to-within 1 4 _ (w .some1) (w .few1)))))
     (unless-none _ _ (eq-eqb _ _ (w .long)))))
-    (below-none _ _ (λ i l. unless-none _ _ (lt-ltb _ _ (w .entries i l))))
+    (below-entries (drop 3 xs) (byte xs 0) 3 (w .entries))
 
 -- a table whose entries are those of the bytes
 abbrev table : ℕ → ℕ → ℕ → List ℕ → Table

@@ -11,9 +11,10 @@ use Rattle.std.specs.declared.option.Option.{Option}
 use Rattle.std.specs.declared.option.Option.the-variants.{Some, None}
 use Rattle.reading.specs.Firsts.{first-of, first-below, unless}
 use Rattle.reading.specs.Bytes.{byte, bit, padded}
-use Rattle.reading.specs.Faults.{Fault, fault, length-place}
-use Rattle.reading.specs.RuleSheets.{Automaton, automaton-in, field-fault, next-fault, head-fault, rule-fault, Lawful}
+use Rattle.reading.specs.Faults.{Fault, fault, length-place, entry-fault}
+use Rattle.reading.specs.RuleSheets.{Automaton, automaton-in, field-fault, head-fault, rule-fault, Lawful}
 use Rattle.reading.proofs.FirstLaws.{none-left, none-right, of-none, of-left, of-right, none-unless, unless-none, none-below, below-none}
+use Rattle.reading.proofs.EntryLaws.{entries-below, below-entries}
 use Rattle.reading.proofs.Ranges.{from-within, to-within}
 use Rattle.reading.proofs.Bits.{bit-below, bits-below}
 
@@ -39,19 +40,14 @@ fields-first n xs l e =
 
 -- what comes after fields and length
 abbrev rows-fault : ℕ → List ℕ → ℕ → Option Fault
-rows-fault n next q = first-of (first-below (length next) (next-fault next q)) (unless (leb (n * q) 256) (fault 7 0))
+rows-fault n next q = first-of (first-below (length next) (entry-fault next q 4)) (unless (leb (n * q) 256) (fault 7 0))
 
 pub rows-next : (n : ℕ) (xs rest : List ℕ) → 4 ≤ length xs → None ≡ field-fault (byte xs 0) (byte xs 1) (byte xs 3)
     → rest ≡ drop 4 xs → length rest ≡ 8 * byte xs 0 → rows-fault n rest (byte xs 0) ≡ rule-fault n xs
 rows-next n xs rest l e hr q =
     let long : length xs ≡ 4 + 8 * byte xs 0 = omega (arith, length-drop 4 xs, ap length hr) in
-    ap (λ m. first-of (first-below m (next-fault rest (byte xs 0))) (unless (leb (n * byte xs 0) 256) (fault 7 0))) q
-    ∙ ap (λ ys. first-of (first-below (8 * byte xs 0) (next-fault ys (byte xs 0))) (unless (leb (n * byte xs 0) 256) (fault 7 0))) hr
+    ap (λ ys. rows-fault n ys (byte xs 0)) hr
     ∙ sym (of-right (head-fault xs) _ (of-none _ _ (unless-none _ _ (le-leb 4 _ l)) (of-none _ _ (sym e) (unless-none _ _ (eq-eqb _ _ long)))))
-
--- next states without a fault are states
-pub next-below : (next : List ℕ) (q : ℕ) → None ≡ first-below (length next) (next-fault next q) → (i : ℕ) → i < length next → getD next i 0 < q
-next-below next q e i l = ltb-true _ _ (none-unless _ _ (none-below _ _ (sym e) i l))
 
 -- an automaton whose next states are those of the bytes
 abbrev automaton : ℕ → ℕ → ℕ → ℕ → List ℕ → Automaton
@@ -64,12 +60,11 @@ module _ (n : ℕ) (xs : List ℕ) where
   pub lawful-from : rule-fault n xs ≡ None → Lawful n xs
   lawful-from e =
       let short : Option Fault = unless (leb 4 (length xs)) (fault 1 (length-place xs)) in
-      let rows : Option Fault = first-below (8 * byte xs 0) (next-fault (drop 4 xs) (byte xs 0)) in
+      let rows : Option Fault = first-below (length (drop 4 xs)) (entry-fault (drop 4 xs) (byte xs 0) 4) in
       let h = none-left (head-fault xs) _ e in
       let t = none-right (head-fault xs) _ e in
       let r = none-right short _ h in
       let f = fields-from _ _ _ (sym (none-left _ _ r)) in
-      let es = none-below _ _ (none-left rows _ t) in
       record {
         fixed = leb-true 4 _ (none-unless _ _ (none-left short _ h));
         some-states = f .states .0;
@@ -77,7 +72,7 @@ module _ (n : ℕ) (xs : List ℕ) where
         accepting = λ j b. bit-below (byte xs 1) (byte xs 0) j (f .accepts) b;
         starts = f .starts;
         long = eqb-true _ _ (none-unless _ _ (none-right _ _ r));
-        next = λ i l. ltb-true _ _ (none-unless _ _ (es i l));
+        next = entries-below (drop 4 xs) (byte xs 0) 4 (none-left rows _ t);
         small = leb-true _ _ (none-unless _ _ (none-right rows _ t));
       }
 
@@ -90,4 +85,4 @@ module _ (n : ℕ) (xs : List ℕ) where
       (of-none _ _ (unless-none _ _ (lt-ltb _ _ (bits-below (byte xs 1) (byte xs 0) small (w .accepting))))
       (unless-none _ _ (lt-ltb _ _ (w .starts)))))
       (unless-none _ _ (eq-eqb _ _ (w .long)))))
-      (of-none _ _ (below-none _ _ (λ i l. unless-none _ _ (lt-ltb _ _ (w .next i l)))) (unless-none _ _ (le-leb _ _ (w .small))))
+      (of-none _ _ (below-entries (drop 4 xs) (byte xs 0) 4 (w .next)) (unless-none _ _ (le-leb _ _ (w .small))))

@@ -1,11 +1,14 @@
 -- The faults of reading: number and place.
 use mathlib.Core.List.{List}
-use Prim.Native.Nat.{ℕ, min}
+use Prim.Native.Nat.{ℕ, _+_, min}
+use lib.Dec.{ltb}
 use lib.ListN.{length}
 use Rattle.std.specs.declared.option.Option.{Option}
 use Rattle.std.specs.declared.option.Option.the-variants.{Some, None}
 use Rattle.std.specs.declared.result.Result.{Result}
 use Rattle.std.specs.declared.result.Result.the-variants.{Ok, Err}
+use Rattle.reading.specs.Firsts.{unless}
+use Rattle.reading.specs.Bytes.{byte}
 use Rattle.reading.specs.declared.faults.ReadFault.{ReadFault}
 use Rattle.reading.specs.declared.faults.ReadFault.the-variants.{Short, Field, Size, Entry, Order, Clash, TooLarge}
 
@@ -40,3 +43,7 @@ told (Err f) = Some (numbers f)
 abbrev pub told-some : Option ReadFault → Option Fault
 told-some None = None
 told-some (Some f) = Some (numbers f)
+
+-- an entry that is not below its limit, placed from an offset on
+abbrev pub entry-fault : List ℕ → ℕ → ℕ → ℕ → Option Fault
+entry-fault entries limit offset i = unless (ltb (byte entries i) limit) (fault 4 (offset + i))

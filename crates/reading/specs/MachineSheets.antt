@@ -12,7 +12,7 @@ use Rattle.std.specs.declared.option.Option.the-variants.{None}
 use Rattle.reading.specs.declared.machine_sheet.MachineSheet.{MachineSheet}
 use Rattle.reading.specs.Firsts.{first-of, first-below, unless}
 use Rattle.reading.specs.Bytes.{byte, pair, within}
-use Rattle.reading.specs.Faults.{Fault, fault, length-place}
+use Rattle.reading.specs.Faults.{Fault, fault, length-place, entry-fault}
 
 -- what a machine sheet says; labels, keys and targets as the bytes that hold them
 pub record Sheet : Type 0 where
@@ -78,8 +78,9 @@ field-fault n k m start moves =
     (first-of (unless (ltb start n) (fault 2 4))
     (unless (leb moves 4096) (fault 2 6)))))
 
+-- labels are 0 to 7, from byte 8 on
 abbrev pub label-fault : Sheet → ℕ → Option Fault
-label-fault s i = unless (leb (byte (s .labels) i) 7) (fault 4 (8 + i))
+label-fault s = entry-fault (s .labels) 8 8
 
 -- of a move: its key, its target, its order after the move before it
 abbrev pub move-fault : Sheet → ℕ → Option Fault
@@ -97,7 +98,7 @@ head-fault xs =
 
 -- all labels, then move by move
 abbrev pub body-fault : Sheet → Option Fault
-body-fault s = first-of (first-below (s .states) (label-fault s)) (first-below (s .moves) (move-fault s))
+body-fault s = first-of (first-below (length (s .labels)) (label-fault s)) (first-below (s .moves) (move-fault s))
 
 -- the first fault of a machine sheet
 abbrev pub machine-fault : List ℕ → Option Fault
@@ -133,7 +134,7 @@ Before s i j = (key-at s i < key-at s j) ⊎ ((key-at s i ≡ key-at s j) × (ta
 
 -- labels and moves in range, the moves strictly ascending
 pub record Listed (s : Sheet) : Type 0 where
-  pub labels : (i : ℕ) → i < s .states → byte (s .labels) i ≤ 7
+  pub labels : (i : ℕ) → i < length (s .labels) → byte (s .labels) i ≤ 7
   pub keys : (i : ℕ) → i < s .moves → key-at s i < s .states * s .own * s .partner
   pub targets : (i : ℕ) → i < s .moves → target-at s i < s .states
   pub ascending : (i j : ℕ) → i < j → j < s .moves → Before s i j

@@ -9,7 +9,7 @@ use Rattle.std.specs.declared.option.Option.{Option}
 use Rattle.reading.specs.declared.phase_table.PhaseTable.{PhaseTable}
 use Rattle.reading.specs.Firsts.{first-of, first-below, unless}
 use Rattle.reading.specs.Bytes.{byte, within, padded}
-use Rattle.reading.specs.Faults.{Fault, fault, length-place}
+use Rattle.reading.specs.Faults.{Fault, fault, length-place, entry-fault}
 
 -- what a phase table says; its entries lie in 128 bytes, zeros behind the last
 pub record Table : Type 0 where
@@ -54,10 +54,7 @@ field-fault p k0 k1 =
     (first-of (unless (within 1 4 k0) (fault 2 1))
     (unless (within 1 4 k1) (fault 2 2)))
 
--- an entry is a phase
-abbrev pub entry-fault : List ℕ → ℕ → ℕ → Option Fault
-entry-fault entries p i = unless (ltb (byte entries i) p) (fault 4 (3 + i))
-
+-- the number of entries
 abbrev pub size-in : List ℕ → ℕ
 size-in xs = byte xs 0 * byte xs 1 * byte xs 2
 
@@ -68,9 +65,9 @@ head-fault xs =
     (first-of (field-fault (byte xs 0) (byte xs 1) (byte xs 2))
     (unless (eqb (length xs) (3 + size-in xs)) (fault 3 (length-place xs))))
 
--- the first fault of a phase table
+-- the first fault of a phase table; entries are phases, from byte 3 on
 abbrev pub phase-fault : List ℕ → Option Fault
-phase-fault xs = first-of (head-fault xs) (first-below (size-in xs) (entry-fault (drop 3 xs) (byte xs 0)))
+phase-fault xs = first-of (head-fault xs) (first-below (length (drop 3 xs)) (entry-fault (drop 3 xs) (byte xs 0) 3))
 
 -- a lawful phase table, in its own words
 pub record Lawful (xs : List ℕ) : Type 0 where
@@ -82,4 +79,4 @@ pub record Lawful (xs : List ℕ) : Type 0 where
   pub some1 : 1 ≤ byte xs 2
   pub few1 : byte xs 2 ≤ 4
   pub long : length xs ≡ 3 + byte xs 0 * byte xs 1 * byte xs 2
-  pub entries : (i : ℕ) → i < size-in xs → byte (drop 3 xs) i < byte xs 0
+  pub entries : (i : ℕ) → i < length (drop 3 xs) → byte (drop 3 xs) i < byte xs 0

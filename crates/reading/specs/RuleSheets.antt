@@ -9,7 +9,7 @@ use Rattle.std.specs.declared.option.Option.{Option}
 use Rattle.reading.specs.declared.rule_sheet.RuleSheet.{RuleSheet}
 use Rattle.reading.specs.Firsts.{first-of, first-below, unless}
 use Rattle.reading.specs.Bytes.{byte, bit, within, padded}
-use Rattle.reading.specs.Faults.{Fault, fault, length-place}
+use Rattle.reading.specs.Faults.{Fault, fault, length-place, entry-fault}
 
 -- a deterministic Büchi automaton over labels 0 to 7, with labels that are forbidden;
 -- next states lie in 64 bytes, row by row, zeros behind the last
@@ -51,10 +51,6 @@ field-fault q accepting start =
     (first-of (unless (ltb accepting (2 ^ q)) (fault 2 1))
     (unless (ltb start q) (fault 2 3)))
 
--- a next state is a state
-abbrev pub next-fault : List ℕ → ℕ → ℕ → Option Fault
-next-fault next q i = unless (ltb (byte next i) q) (fault 4 (4 + i))
-
 -- too short, a field, the length
 abbrev pub head-fault : List ℕ → Option Fault
 head-fault xs =
@@ -62,11 +58,11 @@ head-fault xs =
     (first-of (field-fault (byte xs 0) (byte xs 1) (byte xs 3))
     (unless (eqb (length xs) (4 + 8 * byte xs 0)) (fault 3 (length-place xs))))
 
--- the first fault of a rule sheet for n states; last, n × Q above 256
+-- the first fault of a rule sheet for n states; next states are states, from byte 4 on; last, n × Q above 256
 abbrev pub rule-fault : ℕ → List ℕ → Option Fault
 rule-fault n xs =
     first-of (head-fault xs)
-    (first-of (first-below (8 * byte xs 0) (next-fault (drop 4 xs) (byte xs 0)))
+    (first-of (first-below (length (drop 4 xs)) (entry-fault (drop 4 xs) (byte xs 0) 4))
     (unless (leb (n * byte xs 0) 256) (fault 7 0)))
 
 -- a lawful rule sheet, in its own words
@@ -77,5 +73,5 @@ pub record Lawful (n : ℕ) (xs : List ℕ) : Type 0 where
   pub accepting : (j : ℕ) → bit (byte xs 1) j ≡ true → j < byte xs 0
   pub starts : byte xs 3 < byte xs 0
   pub long : length xs ≡ 4 + 8 * byte xs 0
-  pub next : (i : ℕ) → i < 8 * byte xs 0 → byte (drop 4 xs) i < byte xs 0
+  pub next : (i : ℕ) → i < length (drop 4 xs) → byte (drop 4 xs) i < byte xs 0
   pub small : n * byte xs 0 ≤ 256

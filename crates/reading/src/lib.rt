@@ -1,4 +1,5 @@
 mod bytes;
+mod entries;
 pub mod faults;
 pub mod machine_sheet;
 pub mod mark_sheet;

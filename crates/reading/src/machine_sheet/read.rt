@@ -2,6 +2,7 @@ use crate::bytes::byte_at;
 use crate::bytes::length_place;
 use crate::bytes::pair_at;
 use crate::bytes::two_bytes;
+use crate::entries::entry_fault;
 use crate::faults::ReadFault;
 use crate::machine_sheet::MachineSheet;
 use crate::machine_sheet::Move;
@@ -16,7 +17,7 @@ ghost use Rattle.std.specs.declared.option.Option.the-variants.{Some, None};
 ghost use Rattle.reading.specs.Firsts.{first-below};
 ghost use Rattle.reading.specs.Bytes.{byte};
 ghost use Rattle.reading.specs.Faults.{numbers, told, told-some};
-ghost use Rattle.reading.specs.MachineSheets.{sheet-in, sheet-of, key-at, target-at, before, field-fault, label-fault, move-fault, head-fault, machine-fault, Shaped, Headed, Lawful};
+ghost use Rattle.reading.specs.MachineSheets.{sheet-in, sheet-of, key-at, target-at, before, field-fault, move-fault, head-fault, machine-fault, Shaped, Headed, Lawful};
 
 /// The sizes that a machine sheet begins with.
 #[derive(Clone, Copy)]
@@ -103,7 +104,7 @@ impl<'a> MachineSheet<'a> {
         ensures lawful { λ r. ⌜ Decides (isOk r) (Lawful (now (bytes .entry))) ⌝ }
     {
         let sheet = cut(bytes)?;
-        if let Some(fault) = sheet.label_fault() {
+        if let Some(fault) = entry_fault(sheet.labels, 8, 8) {
             return Err(fault);
         }
         if let Some(fault) = sheet.moves_fault() {
@@ -164,19 +165,6 @@ impl<'a> MachineSheet<'a> {
             key: pair_at(self.keys, place),
             target: pair_at(self.targets, place),
         }
-    }
-
-    /// The first label out of range.
-    fn label_fault(&self) -> Option<ReadFault>
-        requires { ⌜ Shaped (sheet-of (now self)) ⌝ }
-        ensures { λ r. ⌜ told-some r ≡ first-below (now (self .entry) .states) (label-fault (sheet-of (now (self .entry)))) ⌝ }
-    {
-        for (i, label) in self.labels.iter().enumerate() {
-            if *label > 7 {
-                return Some(ReadFault::Entry(8 + i as u16));
-            }
-        }
-        None
     }
 
     /// What is wrong with a move first: its key, its target, its order.

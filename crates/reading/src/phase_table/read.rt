@@ -1,17 +1,15 @@
 use crate::bytes::byte_at;
 use crate::bytes::length_place;
 use crate::bytes::put_front;
+use crate::entries::entry_fault;
 use crate::faults::ReadFault;
 use crate::phase_table::PhaseTable;
 ghost use mathlib.Core.Path.{_≡_};
-ghost use Prim.Native.Nat.{_≤_};
-ghost use lib.ListN.{length};
 ghost use Rattle.std.specs.Results.{isOk, Cases};
 ghost use Rattle.std.specs.Vec.{made};
 ghost use Rattle.std.specs.Orderings.{Decides};
-ghost use Rattle.reading.specs.Firsts.{first-below};
 ghost use Rattle.reading.specs.Faults.{told, told-some};
-ghost use Rattle.reading.specs.PhaseTables.{table-in, table-of, single, next-phase, field-fault, entry-fault, phase-fault, Lawful};
+ghost use Rattle.reading.specs.PhaseTables.{table-in, table-of, single, next-phase, field-fault, phase-fault, Lawful};
 
 /// The first size out of range.
 fn field_fault(phases: u8, signals0: u8, signals1: u8) -> Option<ReadFault>
@@ -25,19 +23,6 @@ fn field_fault(phases: u8, signals0: u8, signals1: u8) -> Option<ReadFault>
     }
     if signals1 < 1 || signals1 > 4 {
         return Some(ReadFault::Field(2));
-    }
-    None
-}
-
-/// The first entry that is no phase.
-fn entry_fault(entries: &[u8], phases: u8) -> Option<ReadFault>
-    requires { ⌜ length (now entries) ≤ 128 ⌝ }
-    ensures { λ r. ⌜ told-some r ≡ first-below (length (now (entries .entry))) (entry-fault (now (entries .entry)) phases) ⌝ }
-{
-    for (i, entry) in entries.iter().enumerate() {
-        if *entry >= phases {
-            return Some(ReadFault::Entry(3 + i as u16));
-        }
     }
     None
 }
@@ -56,7 +41,7 @@ fn parse(bytes: &[u8]) -> Result<PhaseTable, ReadFault>
     if rest.len() != *phases as usize * *signals0 as usize * *signals1 as usize {
         return Err(ReadFault::Size(length_place(bytes)));
     }
-    if let Some(fault) = entry_fault(rest, *phases) {
+    if let Some(fault) = entry_fault(rest, *phases, 3) {
         return Err(fault);
     }
     let mut entries = [0; 128];

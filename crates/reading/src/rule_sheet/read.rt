@@ -2,20 +2,18 @@ use crate::bytes::has_bit;
 use crate::bytes::length_place;
 use crate::bytes::put_front;
 use crate::bytes::strays;
+use crate::entries::entry_fault;
 use crate::faults::ReadFault;
 use crate::rule_sheet::RuleSheet;
 ghost use mathlib.Core.Path.{_≡_};
 ghost use mathlib.Core.Bool.{_&&_};
-ghost use Prim.Native.Nat.{_≤_};
 ghost use lib.Dec.{ltb};
-ghost use lib.ListN.{length};
 ghost use Rattle.std.specs.Results.{isOk};
 ghost use Rattle.std.specs.Vec.{made};
 ghost use Rattle.std.specs.Orderings.{Decides};
-ghost use Rattle.reading.specs.Firsts.{first-below};
 ghost use Rattle.reading.specs.Bytes.{bit};
 ghost use Rattle.reading.specs.Faults.{told, told-some};
-ghost use Rattle.reading.specs.RuleSheets.{automaton-in, automaton-of, next-state, field-fault, next-fault, rule-fault, Lawful};
+ghost use Rattle.reading.specs.RuleSheets.{automaton-in, automaton-of, next-state, field-fault, rule-fault, Lawful};
 
 /// The first field out of range.
 fn field_fault(states: u8, accepting: u8, start: u8) -> Option<ReadFault>
@@ -29,19 +27,6 @@ fn field_fault(states: u8, accepting: u8, start: u8) -> Option<ReadFault>
     }
     if start >= states {
         return Some(ReadFault::Field(3));
-    }
-    None
-}
-
-/// The first next state that is no state.
-fn next_fault(next: &[u8], states: u8) -> Option<ReadFault>
-    requires { ⌜ length (now next) ≤ 64 ⌝ }
-    ensures { λ r. ⌜ told-some r ≡ first-below (length (now (next .entry))) (next-fault (now (next .entry)) states) ⌝ }
-{
-    for (i, state) in next.iter().enumerate() {
-        if *state >= states {
-            return Some(ReadFault::Entry(4 + i as u16));
-        }
     }
     None
 }
@@ -62,7 +47,7 @@ impl RuleSheet {
         if rest.len() != 8 * *count as usize {
             return Err(ReadFault::Size(length_place(bytes)));
         }
-        if let Some(fault) = next_fault(rest, *count) {
+        if let Some(fault) = entry_fault(rest, *count, 4) {
             return Err(fault);
         }
         if states as u32 * *count as u32 > 256 {

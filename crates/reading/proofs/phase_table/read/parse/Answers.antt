@@ -6,7 +6,8 @@ use lib.ListN.{length, getD, take, drop}
 use borrow.Author.Tests.{ltb-false}
 use Rattle.std.proofs.shelf.Lists.{take-rest}
 use Rattle.reading.specs.PhaseTables.{phase-fault}
-use Rattle.reading.proofs.PhaseLaws.{fields-from, few-entries, entries-next, entries-below, table-with}
+use Rattle.reading.proofs.PhaseLaws.{fields-from, few-entries, entries-next, table-with}
+use Rattle.reading.proofs.EntryLaws.{entries-below}
 use Rattle.reading.proofs.Padding.{front-of-zeros, closed-from}
 use Rattle.reading.specs.Bytes.{padded}
 use Rattle.reading.proofs.phase_table.read.parse.Needs as need
@@ -44,7 +45,7 @@ ghost-result c =
               f .signals1 .0,
               (
                 f .signals1 .1,
-                (closed-from 128 _ rest _ held (f .phases .0) (entries-below rest _ (c .in-rest-entry-fault .ensures tt)), tt),
+                (closed-from 128 _ rest _ held (f .phases .0) (entries-below rest _ 3 (sym (c .in-rest-entry-fault .ensures tt))), tt),
               ),
             ),
           ),

@@ -11,7 +11,8 @@ use Rattle.reading.specs.RuleSheets.{rule-fault}
 use Rattle.reading.proofs.FirstLaws.{of-none, of-left, of-right, unless-none, unless-some}
 use Rattle.reading.proofs.Answering.{refuses, accepts}
 use Rattle.reading.proofs.Padding.{front-of-zeros, closed-from}
-use Rattle.reading.proofs.RuleLaws.{fields-first, fields-from, rows-next, next-below, automaton-with, lawful-from, lawful-to}
+use Rattle.reading.proofs.EntryLaws.{entries-below}
+use Rattle.reading.proofs.RuleLaws.{fields-first, fields-from, rows-next, automaton-with, lawful-from, lawful-to}
 use Rattle.reading.proofs.rule_sheet.RuleSheet.read.Needs as need
 
 pub returns-in-Some : need.returns-in-Some
@@ -22,12 +23,12 @@ returns-in-Some c =
     let e = fields-first n xs l (c .in-Some .ensures tt) in
     record { first = e; value = tt; lawful = refuses (rule-fault n xs) (lawful-to n xs (c .typed .bytes 1 .fits)) e }
 
-pub returns-in-Some-next-fault : need.returns-in-Some-next-fault
-returns-in-Some-next-fault c =
+pub returns-in-Some-entry-fault : need.returns-in-Some-entry-fault
+returns-in-Some-entry-fault c =
     let xs = c .args .bytes .now in
     let n = c .args .states in
     let l : 4 ≤ length xs = omega (arith, ltb-false) in
-    let e = sym (of-left _ _ _ (sym (c .in-Some-next-fault .ensures tt))) ∙ rows-next n xs _ l (c .in-rest-field-fault .ensures tt) (take-rest xs 4) (c .if-rest-count .left) in
+    let e = sym (of-left _ _ _ (sym (c .in-Some-entry-fault .ensures tt))) ∙ rows-next n xs _ l (c .in-rest-field-fault .ensures tt) (take-rest xs 4) (c .if-rest-count .left) in
     record { first = e; value = tt; lawful = refuses (rule-fault n xs) (lawful-to n xs (c .typed .bytes 1 .fits)) e }
 
 pub returns-then-states-count-gt256 : need.returns-then-states-count-gt256
@@ -35,7 +36,7 @@ returns-then-states-count-gt256 c =
     let xs = c .args .bytes .now in
     let n = c .args .states in
     let l : 4 ≤ length xs = omega (arith, ltb-false) in
-    let e = sym (of-right _ _ (sym (c .in-rest-next-fault .ensures tt)) ∙ unless-some _ _ (lt-leb _ _ (c .if-states-count-gt256 .taken))) ∙ rows-next n xs _ l (c .in-rest-field-fault .ensures tt) (take-rest xs 4) (c .if-rest-count .left) in
+    let e = sym (of-right _ _ (sym (c .in-rest-entry-fault .ensures tt)) ∙ unless-some _ _ (lt-leb _ _ (c .if-states-count-gt256 .taken))) ∙ rows-next n xs _ l (c .in-rest-field-fault .ensures tt) (take-rest xs 4) (c .if-rest-count .left) in
     record { first = e; value = tt; lawful = refuses (rule-fault n xs) (lawful-to n xs (c .typed .bytes 1 .fits)) e }
 
 pub ghost-result : need.ghost-result
@@ -51,7 +52,7 @@ ghost-result c =
           f .accepts,
           (
             f .starts,
-            (closed-from 64 _ rest _ held (f .states .0) (next-below rest _ (c .in-rest-next-fault .ensures tt)), tt),
+            (closed-from 64 _ rest _ held (f .states .0) (entries-below rest _ 4 (sym (c .in-rest-entry-fault .ensures tt))), tt),
           ),
         ),
       ),
@@ -62,7 +63,7 @@ returns c =
     let xs = c .args .bytes .now in
     let n = c .args .states in
     let l : 4 ≤ length xs = omega (arith, ltb-false) in
-    let e = sym (of-none _ _ (sym (c .in-rest-next-fault .ensures tt)) (unless-none _ _ (le-leb _ _ (c .if-states-count-gt256 .left)))) ∙ rows-next n xs _ l (c .in-rest-field-fault .ensures tt) (take-rest xs 4) (c .if-rest-count .left) in
+    let e = sym (of-none _ _ (sym (c .in-rest-entry-fault .ensures tt)) (unless-none _ _ (le-leb _ _ (c .if-states-count-gt256 .left)))) ∙ rows-next n xs _ l (c .in-rest-field-fault .ensures tt) (take-rest xs 4) (c .if-rest-count .left) in
     record {
       first = e;
       value = automaton-with xs _ (c .put-front .ensures ∙ front-of-zeros 64 _ ∙ ap (padded 64) (take-rest xs 4));

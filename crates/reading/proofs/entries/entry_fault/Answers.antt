@@ -3,13 +3,13 @@ use native.Mathlib.Omega.{arith}
 use lib.ListN.{length}
 use Rattle.std.proofs.shelf.Tests.{lt-ltb, le-ltb}
 use Rattle.reading.proofs.FirstLaws.{below-some, none-more, unless-none, unless-some, same-end}
-use Rattle.reading.proofs.phase_table.read.entry_fault.Needs as need
+use Rattle.reading.proofs.entries.entry_fault.Needs as need
 
-pub returns-then-entry-phases : need.returns-then-entry-phases
-returns-then-entry-phases c = sym (below-some _ _ (c .loop-i .i) _ (c .loop-i-test .taken) (c .loop-i .inv) (unless-some _ _ (le-ltb _ _ (c .if-entry-phases .taken))))
+pub returns-then-entry-limit : need.returns-then-entry-limit
+returns-then-entry-limit c = sym (below-some _ _ (c .loop-i .i) _ (c .loop-i-test .taken) (c .loop-i .inv) (unless-some _ _ (le-ltb _ _ (c .if-entry-limit .taken))))
 
 pub loop-i-again : need.loop-i-again
-loop-i-again c = none-more (c .loop-i .i) _ (c .loop-i .inv) (unless-none _ _ (lt-ltb _ _ (c .if-entry-phases .left)))
+loop-i-again c = none-more (c .loop-i .i) _ (c .loop-i .inv) (unless-none _ _ (lt-ltb _ _ (c .if-entry-limit .left)))
 
 pub returns : need.returns
 returns c = same-end (c .loop-i .i) (length (c .args .entries .now)) _ (omega (arith, c .loop-i-test .left, c .loop-i .kept .i-end)) (c .loop-i .inv)
