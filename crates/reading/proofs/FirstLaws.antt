@@ -93,8 +93,8 @@ pub tests-more : (i : ℕ) (f : ℕ → Bool) → some-below i f ≡ false → f
 tests-more i f e h = rw (add-one, e) h
 
 -- the end of a loop
-pub same-end : {A : Type 0} (i n : ℕ) (f : ℕ → Option A) → i ≡ n → first-below i f ≡ None → None ≡ first-below n f
-same-end i n f q e = sym (rw q at e)
+pub none-end : {A : Type 0} (i n : ℕ) (f : ℕ → Option A) → n ≤ i → first-below i f ≡ None → None ≡ first-below n f
+none-end i n f l e = sym (below-none n f (λ k h. none-below i f e k (omega arith)))
 
 -- one more turn of a loop that looks for the largest
 pub highest-more : (i : ℕ) (f : ℕ → ℕ) (b x r : ℕ) → b ≡ highest-below i f → x ≡ f i → r ≡ max b x → r ≡ highest-below (i + 1) f

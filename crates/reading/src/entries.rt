@@ -10,8 +10,8 @@ pub fn entry_fault(entries: &[u8], limit: u8, offset: u16) -> Option<ReadFault>
     requires { ⌜ offset + length (now entries) < 65536 ⌝ }
     ensures { λ r. ⌜ told-some r ≡ first-below (length (now (entries .entry))) (entry-fault (now (entries .entry)) limit offset) ⌝ }
 {
-    for (i, entry) in entries.iter().enumerate() {
-        if *entry >= limit {
+    for i in 0..entries.len() {
+        if entries[i] >= limit {
             return Some(ReadFault::Entry(offset + i as u16));
         }
     }

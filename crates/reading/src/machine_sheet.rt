@@ -3,11 +3,11 @@ mod read;
 /// A machine sheet that was read: its sizes, and the parts of the bytes that hold labels, keys and targets.
 #[derive(Clone, Copy)]
 pub struct MachineSheet<'a> {
-    states: u16,
-    own: u8,
-    partner: u8,
-    start: u16,
-    moves: u16,
+    pub states: u16,
+    pub own: u8,
+    pub partner: u8,
+    pub start: u16,
+    pub moves: u16,
     labels: &'a [u8],
     keys: &'a [u8],
     targets: &'a [u8],

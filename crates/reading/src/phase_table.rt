@@ -1,5 +1,6 @@
 mod read;
 
+ghost use mathlib.Core.Path.{_≡_};
 ghost use Prim.Native.Nat.{_≤_};
 ghost use Rattle.reading.specs.Phases.{Closed};
 
@@ -17,4 +18,27 @@ pub struct PhaseTable {
     ghost some1: { 1 ≤ signals1 },
     ghost few1: { signals1 ≤ 4 },
     ghost closed: { Closed phases entries },
+}
+
+impl PhaseTable {
+    /// How many phases there are.
+    pub fn phases(&self) -> u8
+        ensures { λ r. ⌜ r ≡ now (self .entry) .phases ⌝ }
+    {
+        self.phases
+    }
+
+    /// How many signals side 0 has.
+    pub fn signals0(&self) -> u8
+        ensures { λ r. ⌜ r ≡ now (self .entry) .signals0 ⌝ }
+    {
+        self.signals0
+    }
+
+    /// How many signals side 1 has.
+    pub fn signals1(&self) -> u8
+        ensures { λ r. ⌜ r ≡ now (self .entry) .signals1 ⌝ }
+    {
+        self.signals1
+    }
 }

@@ -1,5 +1,6 @@
 mod read;
 
+ghost use mathlib.Core.Path.{_≡_};
 ghost use Prim.Native.Nat.{_≤_, _<_, _^_};
 ghost use Rattle.reading.specs.Phases.{Closed};
 
@@ -16,4 +17,20 @@ pub struct RuleSheet {
     ghost accepts: { accepting < 2 ^ states },
     ghost starts: { start < states },
     ghost closed: { Closed states next },
+}
+
+impl RuleSheet {
+    /// How many states the automaton has.
+    pub fn states(&self) -> u8
+        ensures { λ r. ⌜ r ≡ now (self .entry) .states ⌝ }
+    {
+        self.states
+    }
+
+    /// The automaton's start.
+    pub fn start(&self) -> u8
+        ensures { λ r. ⌜ r ≡ now (self .entry) .start ⌝ }
+    {
+        self.start
+    }
 }

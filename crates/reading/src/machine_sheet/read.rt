@@ -113,41 +113,6 @@ impl<'a> MachineSheet<'a> {
         Ok(sheet)
     }
 
-    /// How many states the machine has.
-    pub fn states(&self) -> u16
-        ensures { λ r. ⌜ r ≡ sheet-of (now (self .entry)) .states ⌝ }
-    {
-        self.states
-    }
-
-    /// How many signals it can show.
-    pub fn own(&self) -> u8
-        ensures { λ r. ⌜ r ≡ sheet-of (now (self .entry)) .own ⌝ }
-    {
-        self.own
-    }
-
-    /// How many signals its partner can show.
-    pub fn partner(&self) -> u8
-        ensures { λ r. ⌜ r ≡ sheet-of (now (self .entry)) .partner ⌝ }
-    {
-        self.partner
-    }
-
-    /// The state that it starts in.
-    pub fn start(&self) -> u16
-        ensures { λ r. ⌜ r ≡ sheet-of (now (self .entry)) .start ⌝ }
-    {
-        self.start
-    }
-
-    /// How many moves the sheet lists.
-    pub fn moves(&self) -> u16
-        ensures { λ r. ⌜ r ≡ sheet-of (now (self .entry)) .moves ⌝ }
-    {
-        self.moves
-    }
-
     /// The label of a state; 0 out of range.
     pub fn label(&self, state: u16) -> u8
         ensures { λ r. ⌜ r ≡ byte (sheet-of (now (self .entry)) .labels) state ⌝ }

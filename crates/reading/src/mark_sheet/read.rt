@@ -5,23 +5,34 @@ use crate::bytes::strays;
 use crate::faults::ReadFault;
 use crate::mark_sheet::MarkSheet;
 ghost use mathlib.Core.Path.{_≡_};
-ghost use Prim.Native.Nat.{_≤_};
+ghost use mathlib.Core.Bool.{not};
+ghost use Prim.Native.Nat.{_-_, _*_, _%_, _^_, _<_};
+ghost use lib.Dec.{ltb};
 ghost use lib.ListN.{length};
 ghost use Rattle.std.specs.Results.{isOk};
 ghost use Rattle.std.specs.Vec.{made};
 ghost use Rattle.std.specs.Orderings.{Decides};
 ghost use Rattle.reading.specs.Firsts.{first-below};
 ghost use Rattle.reading.specs.Faults.{told, told-some};
+ghost use Rattle.reading.specs.Bytes.{byte};
 ghost use Rattle.reading.specs.Marks.{marked};
 ghost use Rattle.reading.specs.MarkSheets.{sets-in, sets-of, stray-fault, clash-fault, mark-fault, Lawful};
+
+/// Whether the byte at a place has a state out of range.
+fn stray_at(bytes: &[u8], states: u16, j: usize) -> bool
+    requires { ⌜ j < length (now bytes) ⌝ }
+    ensures { λ r. ⌜ r ≡ not (ltb (byte (now (bytes .entry)) j) (2 ^ (states - 8 * (j % 32)))) ⌝ }
+{
+    strays(bytes[j], states.saturating_sub(8 * (j % 32) as u16))
+}
 
 /// The first byte with a state out of range.
 fn stray_fault(bytes: &[u8], states: u16) -> Option<ReadFault>
     requires { ⌜ length (now bytes) ≡ 64 ⌝ }
     ensures { λ r. ⌜ told-some r ≡ first-below (length (now (bytes .entry))) (stray-fault states (now (bytes .entry))) ⌝ }
 {
-    for (j, byte) in bytes.iter().enumerate() {
-        if strays(*byte, states.saturating_sub(8 * (j % 32) as u16)) {
+    for j in 0..bytes.len() {
+        if stray_at(bytes, states, j) {
             return Some(ReadFault::Entry(j as u16));
         }
     }
@@ -34,8 +45,8 @@ fn clash_fault(forbidden: &[u8], goals: &[u8]) -> Option<ReadFault>
     requires alike { ⌜ length (now goals) ≡ 32 ⌝ }
     ensures { λ r. ⌜ told-some r ≡ first-below (length (now (forbidden .entry))) (clash-fault (now (forbidden .entry)) (now (goals .entry))) ⌝ }
 {
-    for (j, states) in forbidden.iter().enumerate() {
-        if *states & goals[j] != 0 {
+    for j in 0..forbidden.len() {
+        if forbidden[j] & goals[j] != 0 {
             return Some(ReadFault::Clash(j as u16));
         }
     }
@@ -76,13 +87,6 @@ impl MarkSheet {
             forbidden,
             goals,
         })
-    }
-
-    /// How many states the machine has.
-    pub fn states(&self) -> u16
-        ensures { λ r. ⌜ r ≡ sets-of (now (self .entry)) .states ⌝ }
-    {
-        self.states
     }
 
     /// Whether a state is marked forbidden.

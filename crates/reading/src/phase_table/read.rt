@@ -77,27 +77,6 @@ impl PhaseTable {
         Ok(())
     }
 
-    /// How many phases there are.
-    pub fn phases(&self) -> u8
-        ensures { λ r. ⌜ r ≡ table-of (now (self .entry)) .phases ⌝ }
-    {
-        self.phases
-    }
-
-    /// How many signals side 0 has.
-    pub fn signals0(&self) -> u8
-        ensures { λ r. ⌜ r ≡ table-of (now (self .entry)) .signals0 ⌝ }
-    {
-        self.signals0
-    }
-
-    /// How many signals side 1 has.
-    pub fn signals1(&self) -> u8
-        ensures { λ r. ⌜ r ≡ table-of (now (self .entry)) .signals1 ⌝ }
-    {
-        self.signals1
-    }
-
     /// The phase after a phase and the signals of both sides; 0 where one of them is out of range.
     pub fn next(&self, phase: u8, first: u8, second: u8) -> u8
         ensures { λ r. ⌜ r ≡ next-phase (table-of (now (self .entry))) phase first second ⌝ }

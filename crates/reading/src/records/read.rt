@@ -35,8 +35,9 @@ fn choice_fault(choices: &[u8], signals: u8) -> Option<ReadFault>
     requires { ⌜ length (now choices) ≤ 2048 ⌝ }
     ensures { λ r. ⌜ told-some r ≡ first-below (length (now (choices .entry))) (choice-fault (now (choices .entry)) signals) ⌝ }
 {
-    for (i, choice) in choices.iter().enumerate() {
-        if *choice >= signals && *choice != 255 {
+    for i in 0..choices.len() {
+        let choice = choices[i];
+        if choice >= signals && choice != 255 {
             return Some(ReadFault::Entry(4 + i as u16));
         }
     }
@@ -72,41 +73,6 @@ impl<'a> Record<'a> {
             choices,
             ranks,
         })
-    }
-
-    /// How many states it speaks of.
-    pub fn states(&self) -> u16
-        ensures { λ r. ⌜ r ≡ parts-of (now (self .entry)) .states ⌝ }
-    {
-        self.states
-    }
-
-    /// How many phases it speaks of.
-    pub fn phases(&self) -> u8
-        ensures { λ r. ⌜ r ≡ parts-of (now (self .entry)) .phases ⌝ }
-    {
-        self.phases
-    }
-
-    /// How many signals it may choose from.
-    pub fn signals(&self) -> u8
-        ensures { λ r. ⌜ r ≡ parts-of (now (self .entry)) .signals ⌝ }
-    {
-        self.signals
-    }
-
-    /// The very part of the bytes that holds the choices, one byte a position.
-    pub fn choices(&self) -> &'a [u8]
-        ensures { λ r. ⌜ r ≡ now (self .entry) .choices ⌝ }
-    {
-        self.choices
-    }
-
-    /// The very part of the bytes that holds the ranks, two bytes a position.
-    pub fn ranks(&self) -> &'a [u8]
-        ensures { λ r. ⌜ r ≡ now (self .entry) .ranks ⌝ }
-    {
-        self.ranks
     }
 
     /// Whether the record has a position for the state and the phase.

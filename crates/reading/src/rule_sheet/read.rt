@@ -64,20 +64,6 @@ impl RuleSheet {
         })
     }
 
-    /// How many states the automaton has.
-    pub fn states(&self) -> u8
-        ensures { λ r. ⌜ r ≡ automaton-of (now (self .entry)) .states ⌝ }
-    {
-        self.states
-    }
-
-    /// The automaton's start.
-    pub fn start(&self) -> u8
-        ensures { λ r. ⌜ r ≡ automaton-of (now (self .entry)) .start ⌝ }
-    {
-        self.start
-    }
-
     /// Whether a state of the automaton is accepting.
     pub fn accepting(&self, state: u8) -> bool
         ensures { λ r. ⌜ r ≡ (ltb state 8 && bit (automaton-of (now (self .entry)) .accepting) state) ⌝ }

@@ -2,7 +2,7 @@ use mathlib.Core.Path.{sym}
 use native.Mathlib.Omega.{arith}
 use lib.ListN.{length}
 use Rattle.std.proofs.shelf.Tests.{or-left, or-right, or-from, lt-ltb, le-ltb, eq-eqb, ne-eqb}
-use Rattle.reading.proofs.FirstLaws.{below-some, none-more, unless-none, unless-some, same-end}
+use Rattle.reading.proofs.FirstLaws.{below-some, none-more, unless-none, unless-some, none-end}
 use Rattle.reading.proofs.records.read.choice_fault.Needs as need
 
 pub returns-then-choice : need.returns-then-choice
@@ -17,4 +17,4 @@ loop-i-again c = none-more (c .loop-i .i) _ (c .loop-i .inv) (unless-none _ _ (e
 ]))
 
 pub returns : need.returns
-returns c = same-end (c .loop-i .i) (length (c .args .choices .now)) _ (omega (arith, c .loop-i-test .left, c .loop-i .kept .i-end)) (c .loop-i .inv)
+returns c = none-end (c .loop-i .i) (length (c .args .choices .now)) _ (c .loop-i-test .left) (c .loop-i .inv)
