@@ -1,3 +1,4 @@
+mod Examples
 pub mod FirstLaws
 pub mod Ranges
 pub mod EntryLaws
