@@ -1,1 +1,3 @@
 pub mod Machines
+pub mod Listings
+pub mod SheetMachines

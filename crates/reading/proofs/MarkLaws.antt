@@ -20,7 +20,7 @@ use Rattle.reading.specs.Faults.{Fault, fault, length-place}
 use Rattle.reading.specs.Marks.{marked, implies}
 use Rattle.reading.specs.MarkSheets.{stray-fault, clash-fault, mark-fault, Lawful}
 use Rattle.reading.proofs.FirstLaws.{none-left, none-right, of-none, of-left, of-right, none-unless, unless-none, none-below, below-none, not-true}
-use Rattle.reading.proofs.Padding.{front-of-zeros, padded-whole}
+use Rattle.reading.proofs.Padding.{front-of-zeros, padded-whole, zeros-are}
 use Rattle.reading.proofs.Bits.{bit-below, bits-below, bit-and, no-bit, no-bits}
 
 -- past 32 bytes nothing is marked
@@ -156,3 +156,7 @@ apart-of xs ys zs ws e f h s = rw (e, f) (go (marked xs s) (marked ys s) refl re
     go true true p q = absurd (h s p q)
     go true false p q = refl
     go false c p q = refl
+
+-- nothing is marked in zeros
+pub none-marked : (s : ℕ) → marked (replicate 32 0) s ≡ false
+none-marked s = ap (λ x. bit x (s % 8)) (zeros-are 32 (s / 8)) ∙ no-bit (s % 8)

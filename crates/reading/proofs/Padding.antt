@@ -31,3 +31,7 @@ padded-whole n xs e =
 -- an array that holds numbers below k, zeros behind them
 pub closed-from : (n k : ℕ) (xs ys : List ℕ) → ys ≡ padded n xs → 0 < k → ((i : ℕ) → i < length xs → getD xs i 0 < k) → (i : ℕ) → getD ys i 0 < k
 closed-from n k xs ys e h each i = rw e (appended-below xs (n - length xs) k h each i)
+
+-- zeros are zeros
+pub zeros-are : (n i : ℕ) → _≡_ {A = ℕ} (getD (replicate n 0) i 0) 0
+zeros-are n i = omega (arith, zeros-below n 1 (omega arith) i)

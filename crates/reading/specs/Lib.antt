@@ -4,7 +4,7 @@ pub mod Faults
 pub mod MachineSheets
 pub mod Marks
 pub mod MarkSheets
-pub mod Phases
+pub mod Limits
 pub mod RuleSheets
 pub mod PhaseTables
 pub mod Records

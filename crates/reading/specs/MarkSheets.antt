@@ -5,7 +5,7 @@ use mathlib.Core.Bool.{true}
 use Prim.Native.Nat.{ℕ, _-_, _*_, _%_, _^_, _<_}
 use lib.Dec.{ltb, eqb}
 use lib.Bits.{bitAnd}
-use lib.ListN.{length, take, drop}
+use lib.ListN.{length, take, drop, replicate}
 use Rattle.std.specs.declared.option.Option.{Option}
 use Rattle.reading.specs.declared.mark_sheet.MarkSheet.{MarkSheet}
 use Rattle.reading.specs.Firsts.{first-of, first-below, unless}
@@ -26,6 +26,10 @@ sets-in n xs = record { states = n; forbidden = take 32 xs; goals = drop 32 xs }
 -- the marks that were read
 abbrev pub sets-of : MarkSheet → Sets
 sets-of m = record { states = m .states; forbidden = m .forbidden; goals = m .goals }
+
+-- no marks at all
+abbrev pub unmarked : ℕ → Sets
+unmarked n = record { states = n; forbidden = replicate 32 0; goals = replicate 32 0 }
 
 -- a byte holds eight states; those from n up are out of range
 abbrev pub stray-fault : ℕ → List ℕ → ℕ → Option Fault

@@ -4,7 +4,7 @@ use mathlib.Core.List.{List, _++_}
 use mathlib.Core.Bool.{Bool, true, cond, _&&_}
 use Prim.Native.Nat.{ℕ, _+_, _-_, _*_, _^_, _≤_, _<_}
 use lib.Dec.{ltb, leb, eqb}
-use lib.ListN.{length, drop}
+use lib.ListN.{length, drop, replicate}
 use Rattle.std.specs.declared.option.Option.{Option}
 use Rattle.reading.specs.declared.rule_sheet.RuleSheet.{RuleSheet}
 use Rattle.reading.specs.Firsts.{first-of, first-below, unless}
@@ -39,6 +39,10 @@ automaton-of r = record {
   start = r .start;
   next = r .next;
 }
+
+-- one state, nothing accepting, nothing forbidden
+abbrev pub blank : Automaton
+blank = record { states = 1; accepting = 0; forbidden = 0; start = 0; next = replicate 64 0 }
 
 -- the next state of state q on a label; 0 where one of them is out of range
 abbrev pub next-state : Automaton → ℕ → ℕ → ℕ

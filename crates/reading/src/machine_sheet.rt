@@ -1,5 +1,7 @@
 mod read;
 
+ghost use mathlib.Core.Path.{_≡_};
+
 /// A machine sheet that was read: its sizes, and the parts of the bytes that hold labels, keys and targets.
 #[derive(Clone, Copy)]
 pub struct MachineSheet<'a> {
@@ -18,4 +20,13 @@ pub struct MachineSheet<'a> {
 pub struct Move {
     pub key: u16,
     pub target: u16,
+}
+
+impl<'a> MachineSheet<'a> {
+    /// The very part of the bytes that holds the labels, one byte a state.
+    pub fn labels(&self) -> &'a [u8]
+        ensures { λ r. ⌜ r ≡ now (self .entry) .labels ⌝ }
+    {
+        self.labels
+    }
 }

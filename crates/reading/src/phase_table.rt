@@ -2,7 +2,7 @@ mod read;
 
 ghost use mathlib.Core.Path.{_≡_};
 ghost use Prim.Native.Nat.{_≤_};
-ghost use Rattle.reading.specs.Phases.{Closed};
+ghost use Rattle.reading.specs.Limits.{All-below};
 
 /// Which phase follows a phase and two signals, in a place that a table can be read into.
 #[derive(Clone, Copy)]
@@ -17,7 +17,7 @@ pub struct PhaseTable {
     ghost few0: { signals0 ≤ 4 },
     ghost some1: { 1 ≤ signals1 },
     ghost few1: { signals1 ≤ 4 },
-    ghost closed: { Closed phases entries },
+    ghost closed: { All-below phases entries },
 }
 
 impl PhaseTable {

@@ -2,7 +2,7 @@ mod read;
 
 ghost use mathlib.Core.Path.{_≡_};
 ghost use Prim.Native.Nat.{_≤_, _<_, _^_};
-ghost use Rattle.reading.specs.Phases.{Closed};
+ghost use Rattle.reading.specs.Limits.{All-below};
 
 /// A rule sheet that was read: a deterministic Büchi automaton over labels, and the labels that are forbidden.
 #[derive(Clone, Copy)]
@@ -16,7 +16,7 @@ pub struct RuleSheet {
     ghost few_states: { states ≤ 8 },
     ghost accepts: { accepting < 2 ^ states },
     ghost starts: { start < states },
-    ghost closed: { Closed states next },
+    ghost closed: { All-below states next },
 }
 
 impl RuleSheet {

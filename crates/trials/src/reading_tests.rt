@@ -10,8 +10,48 @@ use std::test::*;
 
 // two states, labels 0 and 1, two signals each way; it changes state if both show 1
 const TOGGLE: [u8; 42] = [
-    2, 0, 2, 2, 0, 0, 8, 0, 0, 1, 0, 0, 1, 0, 2, 0, 3, 0, 4, 0, 5, 0, 6, 0, 7, 0, 0, 0, 0, 0, 0, 0, 1, 0, 1, 0, 1, 0, 1,
-    0, 0, 0,
+    2,
+    0,
+    2,
+    2,
+    0,
+    0,
+    8,
+    0,
+    0,
+    1,
+    0,
+    0,
+    1,
+    0,
+    2,
+    0,
+    3,
+    0,
+    4,
+    0,
+    5,
+    0,
+    6,
+    0,
+    7,
+    0,
+    0,
+    0,
+    0,
+    0,
+    0,
+    0,
+    1,
+    0,
+    1,
+    0,
+    1,
+    0,
+    1,
+    0,
+    0,
+    0,
 ];
 // accepting in state 1, which label 1 leads to
 const RULE: [u8; 20] = [2, 2, 0, 0, 0, 1, 0, 0, 0, 0, 0, 0, 0, 1, 0, 0, 0, 0, 0, 0];
@@ -20,12 +60,8 @@ const PHASES: [u8; 7] = [2, 1, 2, 0, 1, 1, 0];
 // four states, one phase, two signals; position 2 is not kept
 const PLAN: [u8; 16] = [4, 0, 1, 2, 1, 1, 255, 1, 1, 1, 0, 0, 255, 255, 0, 0];
 
-/// A change of two bytes of an example, and the fault that it brings; a place past the end changes nothing.
-struct Case {
-    first: (usize, u8),
-    second: (usize, u8),
-    fault: (u8, u16),
-}
+/// Two places with their new bytes, and the fault that they bring; a place past the end changes nothing.
+type Case = ((usize, u8), (usize, u8), (u8, u16));
 
 const NONE: (usize, u8) = (usize::MAX, 0);
 
@@ -80,44 +116,47 @@ fn long(heap: Global, front: &[u8], zeros: usize) -> Result<Vec<u8>, AllocError>
 
 #[test]
 fn machine_fields_and_entries() -> Result<(), Fail> {
-    let cases = [
-        Case { first: NONE, second: NONE, fault: (0, 0) },
-        Case { first: (0, 0), second: (2, 0), fault: (2, 0) },
-        Case { first: (1, 1), second: (2, 5), fault: (2, 2) },
-        Case { first: (0, 1), second: (1, 1), fault: (2, 0) },
-        Case { first: (2, 0), second: (3, 0), fault: (2, 2) },
-        Case { first: (3, 5), second: (4, 2), fault: (2, 3) },
-        Case { first: (4, 2), second: (7, 16), fault: (2, 4) },
-        Case { first: (6, 1), second: (7, 16), fault: (2, 6) },
-        Case { first: (6, 0), second: (7, 16), fault: (3, 42) },
-        Case { first: (6, 7), second: (9, 8), fault: (3, 42) },
-        Case { first: (8, 7), second: (9, 7), fault: (0, 0) },
-        Case { first: (9, 8), second: (24, 8), fault: (4, 9) },
-        Case { first: (8, 8), second: (9, 8), fault: (4, 8) },
-        Case { first: (24, 8), second: (40, 2), fault: (4, 24) },
-        Case { first: (40, 2), second: (41, 0), fault: (4, 40) },
-        Case { first: (12, 0), second: (40, 2), fault: (5, 12) },
-        Case { first: (12, 0), second: (28, 1), fault: (0, 0) },
-        Case { first: (26, 1), second: (12, 0), fault: (5, 12) },
-        Case { first: (28, 2), second: (14, 0), fault: (4, 28) },
-        Case { first: (11, 1), second: (26, 9), fault: (4, 10) },
+    let cases: [Case; 21] = [
+        (NONE, NONE, (0, 0)),
+        ((0, 0), (2, 0), (2, 0)),
+        ((1, 1), (2, 5), (2, 0)),
+        ((0, 0), (1, 1), (3, 42)),
+        ((0, 1), (1, 1), (2, 0)),
+        ((2, 0), (3, 0), (2, 2)),
+        ((3, 5), (4, 2), (2, 3)),
+        ((4, 2), (7, 16), (2, 4)),
+        ((6, 1), (7, 16), (2, 6)),
+        ((6, 0), (7, 16), (3, 42)),
+        ((6, 7), (9, 8), (3, 42)),
+        ((8, 7), (9, 7), (0, 0)),
+        ((9, 8), (24, 8), (4, 9)),
+        ((8, 8), (9, 8), (4, 8)),
+        ((24, 8), (40, 2), (4, 24)),
+        ((40, 2), (41, 0), (4, 40)),
+        ((12, 0), (40, 2), (5, 12)),
+        ((12, 0), (28, 1), (0, 0)),
+        ((26, 1), (12, 0), (5, 12)),
+        ((28, 2), (14, 0), (4, 28)),
+        ((11, 1), (26, 9), (4, 10)),
     ];
     for case in cases {
         let mut bytes = TOGGLE;
-        with(&mut bytes, case.first);
-        with(&mut bytes, case.second);
-        check_eq(machine_fault(&bytes), case.fault)?;
+        with(&mut bytes, case.0);
+        with(&mut bytes, case.1);
+        check_eq(machine_fault(&bytes), case.2)?;
     }
     Ok(())
 }
 
 #[test]
 fn machine_says(rt: LibcRuntime) -> Result<(), Fail> {
-    let sheet = match MachineSheet::read(&TOGGLE) {
-        Ok(sheet) => sheet,
-        Err(_) => return Err(Fail::new("refused")),
+    let Ok(sheet) = MachineSheet::read(&TOGGLE) else {
+        return Err(Fail::new("refused"));
     };
-    check_eq((sheet.states, sheet.own, sheet.partner, sheet.start), (2, 2, 2, 0))?;
+    check_eq(
+        (sheet.states, sheet.own, sheet.partner, sheet.start),
+        (2, 2, 2, 0),
+    )?;
     check_eq(sheet.moves, 8)?;
     check_eq((sheet.label(0), sheet.label(1), sheet.label(2)), (0, 1, 0))?;
     check_eq((sheet.entry(3).key, sheet.entry(3).target), (3, 1))?;
@@ -164,32 +203,43 @@ fn marks_say() -> Result<(), Fail> {
     let mut bytes = [0; 64];
     bytes[0] = 5;
     bytes[63] = 128;
-    let sheet = MarkSheet::read(&bytes, 256).ok().ok_or("refused")?;
-    check_eq((sheet.forbidden(0), sheet.forbidden(1), sheet.forbidden(2)), (true, false, true))?;
-    check_eq((sheet.goal(0), sheet.goal(255), sheet.goal(256)), (false, true, false))?;
-    check_eq((sheet.forbidden(256), sheet.forbidden(65535)), (false, false))
+    let Ok(sheet) = MarkSheet::read(&bytes, 256) else {
+        return Err(Fail::new("refused"));
+    };
+    check_eq(
+        (sheet.forbidden(0), sheet.forbidden(1), sheet.forbidden(2)),
+        (true, false, true),
+    )?;
+    check_eq(
+        (sheet.goal(0), sheet.goal(255), sheet.goal(256)),
+        (false, true, false),
+    )?;
+    check_eq(
+        (sheet.forbidden(256), sheet.forbidden(65535)),
+        (false, false),
+    )
 }
 
 #[test]
 fn rules(rt: LibcRuntime) -> Result<(), Fail> {
-    let cases = [
-        Case { first: NONE, second: NONE, fault: (0, 0) },
-        Case { first: (0, 0), second: (1, 4), fault: (2, 0) },
-        Case { first: (0, 9), second: (3, 9), fault: (2, 0) },
-        Case { first: (1, 4), second: (3, 2), fault: (2, 1) },
-        Case { first: (1, 128), second: (2, 255), fault: (2, 1) },
-        Case { first: (1, 3), second: (2, 255), fault: (0, 0) },
-        Case { first: (3, 2), second: (4, 2), fault: (2, 3) },
-        Case { first: (0, 3), second: (4, 3), fault: (3, 20) },
-        Case { first: (0, 1), second: (1, 1), fault: (3, 20) },
-        Case { first: (4, 2), second: (19, 2), fault: (4, 4) },
-        Case { first: (19, 2), second: NONE, fault: (4, 19) },
+    let cases: [Case; 11] = [
+        (NONE, NONE, (0, 0)),
+        ((0, 0), (1, 4), (2, 0)),
+        ((0, 9), (3, 9), (2, 0)),
+        ((1, 4), (3, 2), (2, 1)),
+        ((1, 128), (2, 255), (2, 1)),
+        ((1, 3), (2, 255), (0, 0)),
+        ((3, 2), (4, 2), (2, 3)),
+        ((0, 3), (4, 3), (3, 20)),
+        ((0, 1), (1, 1), (3, 20)),
+        ((4, 2), (19, 2), (4, 4)),
+        ((19, 2), NONE, (4, 19)),
     ];
     for case in cases {
         let mut bytes = RULE;
-        with(&mut bytes, case.first);
-        with(&mut bytes, case.second);
-        check_eq(rule_fault(&bytes, 128), case.fault)?;
+        with(&mut bytes, case.0);
+        with(&mut bytes, case.1);
+        check_eq(rule_fault(&bytes, 128), case.2)?;
     }
     check_eq(rule_fault(&RULE, 129), (7, 0))?;
     check_eq(rule_fault(&RULE, 65535), (7, 0))?;
@@ -204,32 +254,40 @@ fn rules(rt: LibcRuntime) -> Result<(), Fail> {
 
 #[test]
 fn rules_say() -> Result<(), Fail> {
-    let rule = RuleSheet::read(&RULE, 2).ok().ok_or("refused")?;
+    let Ok(rule) = RuleSheet::read(&RULE, 2) else {
+        return Err(Fail::new("refused"));
+    };
     check_eq((rule.states(), rule.start()), (2, 0))?;
-    check_eq((rule.accepting(0), rule.accepting(1), rule.accepting(8)), (false, true, false))?;
+    check_eq(
+        (rule.accepting(0), rule.accepting(1), rule.accepting(8)),
+        (false, true, false),
+    )?;
     check_eq((rule.forbidden(0), rule.forbidden(255)), (false, false))?;
-    check_eq((rule.next(0, 0), rule.next(0, 1), rule.next(1, 1)), (0, 1, 1))?;
+    check_eq(
+        (rule.next(0, 0), rule.next(0, 1), rule.next(1, 1)),
+        (0, 1, 1),
+    )?;
     check_eq((rule.next(2, 1), rule.next(0, 8)), (0, 0))
 }
 
 #[test]
 fn phases(rt: LibcRuntime) -> Result<(), Fail> {
-    let cases = [
-        Case { first: NONE, second: NONE, fault: (0, 0) },
-        Case { first: (0, 0), second: (1, 0), fault: (2, 0) },
-        Case { first: (0, 9), second: (2, 9), fault: (2, 0) },
-        Case { first: (1, 5), second: (2, 0), fault: (2, 1) },
-        Case { first: (2, 5), second: (3, 9), fault: (2, 2) },
-        Case { first: (0, 1), second: (4, 9), fault: (3, 7) },
-        Case { first: (1, 2), second: (2, 1), fault: (0, 0) },
-        Case { first: (4, 2), second: (6, 2), fault: (4, 4) },
-        Case { first: (6, 2), second: NONE, fault: (4, 6) },
+    let cases: [Case; 9] = [
+        (NONE, NONE, (0, 0)),
+        ((0, 0), (1, 0), (2, 0)),
+        ((0, 9), (2, 9), (2, 0)),
+        ((1, 5), (2, 0), (2, 1)),
+        ((2, 5), (3, 9), (2, 2)),
+        ((0, 1), (4, 9), (3, 7)),
+        ((1, 2), (2, 1), (0, 0)),
+        ((4, 2), (6, 2), (4, 4)),
+        ((6, 2), NONE, (4, 6)),
     ];
     for case in cases {
         let mut bytes = PHASES;
-        with(&mut bytes, case.first);
-        with(&mut bytes, case.second);
-        check_eq(phase_fault(&bytes), case.fault)?;
+        with(&mut bytes, case.0);
+        with(&mut bytes, case.1);
+        check_eq(phase_fault(&bytes), case.2)?;
     }
     check_eq(phase_fault(&[]), (1, 0))?;
     check_eq(phase_fault(&PHASES[0..2]), (1, 2))?;
@@ -243,38 +301,51 @@ fn phases(rt: LibcRuntime) -> Result<(), Fail> {
 #[test]
 fn phase_places() -> Result<(), Fail> {
     let mut place = PhaseTable::new();
-    check_eq((place.phases(), place.signals0(), place.signals1()), (1, 1, 1))?;
+    check_eq(
+        (place.phases(), place.signals0(), place.signals1()),
+        (1, 1, 1),
+    )?;
     check_eq(place.next(0, 0, 0), 0)?;
     check(place.read(&PHASES).is_ok())?;
-    check_eq((place.phases(), place.signals0(), place.signals1()), (2, 1, 2))?;
+    check_eq(
+        (place.phases(), place.signals0(), place.signals1()),
+        (2, 1, 2),
+    )?;
     check_eq((place.next(0, 0, 0), place.next(0, 0, 1)), (0, 1))?;
     check_eq((place.next(1, 0, 0), place.next(1, 0, 1)), (1, 0))?;
-    check_eq((place.next(2, 0, 0), place.next(0, 1, 1), place.next(0, 0, 2)), (0, 0, 0))?;
+    check_eq(
+        (
+            place.next(2, 0, 0),
+            place.next(0, 1, 1),
+            place.next(0, 0, 2),
+        ),
+        (0, 0, 0),
+    )?;
     check(place.read(&[]).is_err())?;
     check_eq((place.phases(), place.next(0, 0, 1)), (2, 1))
 }
 
 #[test]
 fn records(rt: LibcRuntime) -> Result<(), Fail> {
-    let cases = [
-        Case { first: NONE, second: NONE, fault: (0, 0) },
-        Case { first: (0, 0), second: (2, 0), fault: (2, 0) },
-        Case { first: (1, 1), second: (2, 9), fault: (2, 0) },
-        Case { first: (2, 9), second: (3, 0), fault: (2, 2) },
-        Case { first: (2, 0), second: (3, 5), fault: (2, 2) },
-        Case { first: (3, 5), second: (4, 9), fault: (2, 3) },
-        Case { first: (3, 0), second: NONE, fault: (2, 3) },
-        Case { first: (0, 2), second: (2, 2), fault: (0, 0) },
-        Case { first: (2, 2), second: (4, 9), fault: (3, 16) },
-        Case { first: (4, 2), second: (7, 2), fault: (4, 4) },
-        Case { first: (7, 254), second: (15, 255), fault: (4, 7) },
-        Case { first: (5, 255), second: (15, 255), fault: (0, 0) },
+    let cases: [Case; 12] = [
+        (NONE, NONE, (0, 0)),
+        ((0, 0), (2, 0), (2, 0)),
+        ((1, 1), (2, 9), (2, 0)),
+        ((2, 9), (3, 0), (2, 2)),
+        ((2, 0), (3, 5), (2, 2)),
+        ((3, 5), (4, 9), (2, 3)),
+        ((3, 0), NONE, (2, 3)),
+        ((0, 2), (2, 2), (0, 0)),
+        ((2, 2), (4, 9), (3, 16)),
+        ((4, 2), (7, 2), (4, 4)),
+        ((7, 254), (15, 255), (4, 7)),
+        ((5, 255), (15, 255), (0, 0)),
     ];
     for case in cases {
         let mut bytes = PLAN;
-        with(&mut bytes, case.first);
-        with(&mut bytes, case.second);
-        check_eq(record_fault(&bytes), case.fault)?;
+        with(&mut bytes, case.0);
+        with(&mut bytes, case.1);
+        check_eq(record_fault(&bytes), case.2)?;
     }
     check_eq(record_fault(&[]), (1, 0))?;
     check_eq(record_fault(&PLAN[0..3]), (1, 3))?;
@@ -287,16 +358,24 @@ fn records(rt: LibcRuntime) -> Result<(), Fail> {
 
 #[test]
 fn records_say() -> Result<(), Fail> {
-    let plan = match Record::read(&PLAN) {
-        Ok(plan) => plan,
-        Err(_) => return Err(Fail::new("refused")),
+    let Ok(plan) = Record::read(&PLAN) else {
+        return Err(Fail::new("refused"));
     };
     check_eq((plan.states, plan.phases, plan.signals), (4, 1, 2))?;
     check_eq((plan.choice(0, 0), plan.choice(2, 0)), (1, 255))?;
     check_eq((plan.choice(0, 1), plan.choice(4, 0)), (255, 255))?;
-    check_eq((plan.rank(0, 0), plan.rank(2, 0), plan.rank(3, 0)), (257, 65535, 0))?;
+    check_eq(
+        (plan.rank(0, 0), plan.rank(2, 0), plan.rank(3, 0)),
+        (257, 65535, 0),
+    )?;
     check_eq((plan.rank(0, 1), plan.rank(4, 0)), (65535, 65535))?;
     check_eq(plan.bound(), 257)?;
     check_eq((plan.choices().len(), plan.ranks().len()), (4, 8))?;
-    check_eq((plan.choices().first().copied(), plan.ranks().last().copied()), (Some(1), Some(0)))
+    check_eq(
+        (
+            plan.choices().first().copied(),
+            plan.ranks().last().copied(),
+        ),
+        (Some(1), Some(0)),
+    )
 }

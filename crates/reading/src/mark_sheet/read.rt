@@ -16,7 +16,7 @@ ghost use Rattle.reading.specs.Firsts.{first-below};
 ghost use Rattle.reading.specs.Faults.{told, told-some};
 ghost use Rattle.reading.specs.Bytes.{byte};
 ghost use Rattle.reading.specs.Marks.{marked};
-ghost use Rattle.reading.specs.MarkSheets.{sets-in, sets-of, stray-fault, clash-fault, mark-fault, Lawful};
+ghost use Rattle.reading.specs.MarkSheets.{sets-in, sets-of, unmarked, stray-fault, clash-fault, mark-fault, Lawful};
 
 /// Whether the byte at a place has a state out of range.
 fn stray_at(bytes: &[u8], states: u16, j: usize) -> bool
@@ -62,6 +62,17 @@ fn contains(set: &[u8; 32], state: u16) -> bool
 }
 
 impl MarkSheet {
+    /// No marks, for a machine of so many states.
+    pub fn new(states: u16) -> MarkSheet
+        ensures { λ r. ⌜ sets-of r ≡ unmarked states ⌝ }
+    {
+        MarkSheet {
+            states,
+            forbidden: [0; 32],
+            goals: [0; 32],
+        }
+    }
+
     /// The marks in the bytes, for a machine of so many states, or the first fault.
     pub fn read(bytes: &[u8], states: u16) -> Result<MarkSheet, ReadFault>
         ensures first { λ r. ⌜ told r ≡ mark-fault states (now (bytes .entry)) ⌝ }

@@ -13,7 +13,7 @@ ghost use Rattle.std.specs.Vec.{made};
 ghost use Rattle.std.specs.Orderings.{Decides};
 ghost use Rattle.reading.specs.Bytes.{bit};
 ghost use Rattle.reading.specs.Faults.{told, told-some};
-ghost use Rattle.reading.specs.RuleSheets.{automaton-in, automaton-of, next-state, field-fault, rule-fault, Lawful};
+ghost use Rattle.reading.specs.RuleSheets.{automaton-in, automaton-of, blank, next-state, field-fault, rule-fault, Lawful};
 
 /// The first field out of range.
 fn field_fault(states: u8, accepting: u8, start: u8) -> Option<ReadFault>
@@ -32,6 +32,19 @@ fn field_fault(states: u8, accepting: u8, start: u8) -> Option<ReadFault>
 }
 
 impl RuleSheet {
+    /// One automaton state, nothing accepting, nothing forbidden.
+    pub fn new() -> RuleSheet
+        ensures { λ r. ⌜ automaton-of r ≡ blank ⌝ }
+    {
+        RuleSheet {
+            states: 1,
+            accepting: 0,
+            forbidden: 0,
+            start: 0,
+            next: [0; 64],
+        }
+    }
+
     /// The automaton in the bytes, for a machine of so many states, or the first fault.
     pub fn read(bytes: &[u8], states: u16) -> Result<RuleSheet, ReadFault>
         ensures first { λ r. ⌜ told r ≡ rule-fault states (now (bytes .entry)) ⌝ }
