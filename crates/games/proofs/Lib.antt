@@ -1,3 +1,4 @@
 pub mod ListLaws
 pub mod Keys
 pub mod SheetLaws
+pub mod Products

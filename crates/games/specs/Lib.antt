@@ -1,3 +1,5 @@
 pub mod Machines
 pub mod Listings
 pub mod SheetMachines
+pub mod Layers
+pub mod Runs

@@ -1,2 +1,4 @@
 pub mod machine;
+pub mod marked;
 pub mod sheet_machine;
+pub mod watched;

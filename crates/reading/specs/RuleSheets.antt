@@ -48,6 +48,13 @@ blank = record { states = 1; accepting = 0; forbidden = 0; start = 0; next = rep
 abbrev pub next-state : Automaton → ℕ → ℕ → ℕ
 next-state a q label = cond (ltb q (a .states) && ltb label 8) (byte (a .next) (8 * q + label)) 0
 
+-- whether a state is accepting, and whether a label is forbidden
+abbrev pub accepts : Automaton → ℕ → Bool
+accepts a q = ltb q 8 && bit (a .accepting) q
+
+abbrev pub forbids : Automaton → ℕ → Bool
+forbids a label = ltb label 8 && bit (a .forbidden) label
+
 -- a field out of range, in field order; accepting states are below Q
 abbrev pub field-fault : ℕ → ℕ → ℕ → Option Fault
 field-fault q accepting start =

@@ -6,14 +6,11 @@ use crate::entries::entry_fault;
 use crate::faults::ReadFault;
 use crate::rule_sheet::RuleSheet;
 ghost use mathlib.Core.Path.{_≡_};
-ghost use mathlib.Core.Bool.{_&&_};
-ghost use lib.Dec.{ltb};
 ghost use Rattle.std.specs.Results.{isOk};
 ghost use Rattle.std.specs.Vec.{made};
 ghost use Rattle.std.specs.Orderings.{Decides};
-ghost use Rattle.reading.specs.Bytes.{bit};
 ghost use Rattle.reading.specs.Faults.{told, told-some};
-ghost use Rattle.reading.specs.RuleSheets.{automaton-in, automaton-of, blank, next-state, field-fault, rule-fault, Lawful};
+ghost use Rattle.reading.specs.RuleSheets.{automaton-in, automaton-of, blank, next-state, accepts, forbids, field-fault, rule-fault, Lawful};
 
 /// The first field out of range.
 fn field_fault(states: u8, accepting: u8, start: u8) -> Option<ReadFault>
@@ -79,14 +76,14 @@ impl RuleSheet {
 
     /// Whether a state of the automaton is accepting.
     pub fn accepting(&self, state: u8) -> bool
-        ensures { λ r. ⌜ r ≡ (ltb state 8 && bit (automaton-of (now (self .entry)) .accepting) state) ⌝ }
+        ensures { λ r. ⌜ r ≡ accepts (automaton-of (now (self .entry))) state ⌝ }
     {
         state < 8 && has_bit(self.accepting, state)
     }
 
     /// Whether a label is forbidden.
     pub fn forbidden(&self, label: u8) -> bool
-        ensures { λ r. ⌜ r ≡ (ltb label 8 && bit (automaton-of (now (self .entry)) .forbidden) label) ⌝ }
+        ensures { λ r. ⌜ r ≡ forbids (automaton-of (now (self .entry))) label ⌝ }
     {
         label < 8 && has_bit(self.forbidden, label)
     }
