@@ -1,4 +1,6 @@
 pub mod ListLaws
 pub mod Keys
 pub mod SheetLaws
+pub mod LiftLaws
+mod LiftExamples
 pub mod Products

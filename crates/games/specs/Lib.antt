@@ -1,5 +1,6 @@
 pub mod Machines
 pub mod Listings
 pub mod SheetMachines
+pub mod Lifts
 pub mod Layers
 pub mod Runs

@@ -1,3 +1,4 @@
+pub mod lift;
 pub mod machine;
 pub mod marked;
 pub mod sheet_machine;

@@ -1,5 +1,7 @@
+mod answers;
 mod load;
 
+pub use self::answers::SheetMachineMachine;
 use reading::machine_sheet::Move;
 ghost use mathlib.Core.Path.{_≡_};
 ghost use Prim.Native.Nat.{_≤_, _<_};

@@ -1,4 +1,5 @@
-//! Examples as tests, in a crate of their own so that the layers stay quick to prove.
+//! Examples: shown from the definitions, and as tests. They have a crate of their own so that the layers stay quick to prove.
 
 #[cfg(test)]
 mod reading_tests;
+pub mod shown;

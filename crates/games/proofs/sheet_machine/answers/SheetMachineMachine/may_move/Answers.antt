@@ -1,6 +1,6 @@
 use native.Mathlib.Omega.{arith}
 use Rattle.games.proofs.Keys.{row-small, key-small}
-use Rattle.games.proofs.sheet_machine.load.SheetMachineMachine.may_move.Needs as need
+use Rattle.games.proofs.sheet_machine.answers.SheetMachineMachine.may_move.Needs as need
 
 pub mul-key-2 : need.mul-key-2
 mul-key-2 c =

@@ -1,7 +1,7 @@
 use Rattle.std.proofs.shelf.Tests.{and-left, and-right, ne-eqb}
 use Rattle.games.proofs.ListLaws.{listed-here, listed-later, listed-never}
-use Rattle.games.proofs.sheet_machine.load.lists.Needs as need
-use Rattle.games.proofs.sheet_machine.load.lists.Needs.{else-m-key·by·then-m-key·else-m-target, else-m-key·by·else-m-key}
+use Rattle.games.proofs.sheet_machine.answers.lists.Needs as need
+use Rattle.games.proofs.sheet_machine.answers.lists.Needs.{else-m-key·by·then-m-key·else-m-target, else-m-key·by·else-m-key}
 
 pub returns-then-m-target : need.returns-then-m-target
 returns-then-m-target c = listed-here _ _ _ (c .loop-m .m-index) (c .loop-m .inv) (c .loop-m-test .taken) (c .if-m-key .taken) (c .if-m-target .taken)
