@@ -4,3 +4,6 @@ pub mod SheetLaws
 pub mod LiftLaws
 mod LiftExamples
 pub mod Products
+pub mod SetLaws
+pub mod DealLaws
+mod DealExamples

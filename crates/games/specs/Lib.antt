@@ -4,3 +4,5 @@ pub mod SheetMachines
 pub mod Lifts
 pub mod Layers
 pub mod Runs
+pub mod Sets
+pub mod Deals
