@@ -7,7 +7,7 @@ use Rattle.std.proofs.shelf.Tests.{true≢false, le-ltb}
 use Rattle.std.proofs.shelf.Bits.{le-div}
 use lib.Dec.{ltb}
 use Rattle.trials.specs.Toggles.{watched-toggle, toggle-marks}
-use Rattle.trials.specs.Shown.{Watched-toggle}
+use Rattle.trials.specs.Shown.{Watched-toggle, Signing}
 
 -- a state from 4 up is none
 far : (t : ℕ) → 4 ≤ t → watched-toggle .move 0 1 1 t ≡ true → ⊥
@@ -24,3 +24,6 @@ only (suc (suc (suc (suc t)))) e = absurd (far (suc (suc (suc (suc t)))) (omega 
 
 pub shown : Watched-toggle
 shown = record { states = refl; start = refl; goals = (refl, refl); no-goals = (refl, refl); moves = refl; only = only }
+
+pub signing-shown : Signing
+signing-shown = record { terms2 = refl; terms3 = refl; signs = refl; too-far = refl }

@@ -1,3 +1,5 @@
+use crate::samples::RULE;
+use crate::samples::TOGGLE;
 use games::lift::Lift;
 use games::lift::LiftMachine;
 use games::machine::Game;
@@ -13,54 +15,6 @@ use games::watched::WatchedMachine;
 use std::alloc::AllocError;
 use std::alloc::Global;
 use std::test::*;
-
-// two states, labels 0 and 1, two signals each way; it changes state if both show 1
-const TOGGLE: [u8; 42] = [
-    2,
-    0,
-    2,
-    2,
-    0,
-    0,
-    8,
-    0,
-    0,
-    1,
-    0,
-    0,
-    1,
-    0,
-    2,
-    0,
-    3,
-    0,
-    4,
-    0,
-    5,
-    0,
-    6,
-    0,
-    7,
-    0,
-    0,
-    0,
-    0,
-    0,
-    0,
-    0,
-    1,
-    0,
-    1,
-    0,
-    1,
-    0,
-    1,
-    0,
-    0,
-    0,
-];
-// accepting in state 1, which label 1 leads to
-const RULE: [u8; 20] = [2, 2, 0, 0, 0, 1, 0, 0, 0, 0, 0, 0, 0, 1, 0, 0, 0, 0, 0, 0];
 
 fn toggle(heap: Global) -> Result<SheetMachine, AllocError> {
     let mut machine = SheetMachine::new(heap)?;

@@ -1,3 +1,6 @@
+use crate::samples::PHASES;
+use crate::samples::RULE;
+use crate::samples::TOGGLE;
 use reading::faults::ReadFault;
 use reading::machine_sheet::MachineSheet;
 use reading::mark_sheet::MarkSheet;
@@ -8,55 +11,6 @@ use std::alloc::AllocError;
 use std::alloc::Global;
 use std::test::*;
 
-// two states, labels 0 and 1, two signals each way; it changes state if both show 1
-const TOGGLE: [u8; 42] = [
-    2,
-    0,
-    2,
-    2,
-    0,
-    0,
-    8,
-    0,
-    0,
-    1,
-    0,
-    0,
-    1,
-    0,
-    2,
-    0,
-    3,
-    0,
-    4,
-    0,
-    5,
-    0,
-    6,
-    0,
-    7,
-    0,
-    0,
-    0,
-    0,
-    0,
-    0,
-    0,
-    1,
-    0,
-    1,
-    0,
-    1,
-    0,
-    1,
-    0,
-    0,
-    0,
-];
-// accepting in state 1, which label 1 leads to
-const RULE: [u8; 20] = [2, 2, 0, 0, 0, 1, 0, 0, 0, 0, 0, 0, 0, 1, 0, 0, 0, 0, 0, 0];
-// two phases, one signal of side 0, two of side 1
-const PHASES: [u8; 7] = [2, 1, 2, 0, 1, 1, 0];
 // four states, one phase, two signals; position 2 is not kept
 const PLAN: [u8; 16] = [4, 0, 1, 2, 1, 1, 255, 1, 1, 1, 0, 0, 255, 255, 0, 0];
 
