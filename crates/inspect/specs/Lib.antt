@@ -1,0 +1,5 @@
+pub mod Names
+pub mod Places
+pub mod Sources
+pub mod Tallies
+pub mod Refusals
