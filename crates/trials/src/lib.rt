@@ -5,6 +5,8 @@ mod deal_tests;
 #[cfg(test)]
 mod games_tests;
 #[cfg(test)]
+mod inspection_tests;
+#[cfg(test)]
 mod reading_tests;
 #[cfg(test)]
 mod samples;
