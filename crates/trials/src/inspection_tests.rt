@@ -1,5 +1,9 @@
+use crate::samples::RULE;
+use crate::samples::TOGGLE;
 use inspection::kinds::Kind;
 use inspection::kinds::Request;
+use inspection::machines::lift;
+use inspection::machines::product;
 use inspection::sheets::inspect;
 use std::alloc::Global;
 use std::test::*;
@@ -273,4 +277,48 @@ fn requests(rt: LibcRuntime) -> Result<(), Fail> {
         check(asked(heap, line)?.is_none()).note(line)?;
     }
     Ok(())
+}
+
+#[test]
+fn products_and_lifts(rt: LibcRuntime) -> Result<(), Fail> {
+    let heap = rt.alloc();
+    let text = "machine watched by an automaton
+states              4
+own signals         2
+partner signals     2
+start               0
+
+state 0 (machine 0, automaton 0, label 0):
+  own 0, partner 0: to 0
+  own 0, partner 1: to 0
+  own 1, partner 0: to 0
+  own 1, partner 1: to 3
+";
+    check(product(heap, &TOGGLE, &RULE)?.as_str().starts_with(text))?;
+    check_eq(
+        product(heap, &TOGGLE[0..7], &[])?.as_str(),
+        "refused 1 at byte 7\nA machine sheet has at least 8 bytes; this one has 7.\n",
+    )?;
+    check_eq(
+        product(heap, &TOGGLE, &RULE[0..3])?.as_str(),
+        "refused 1 at byte 3\nA rule sheet has at least 4 bytes; this one has 3.\n",
+    )?;
+    check_eq(
+        lift(heap, 33, 9)?.as_str(),
+        "refused 2 at byte 0\nA lift has 2 to 32 floors.\n",
+    )?;
+    let text = "lift
+states              4
+own signals         4
+partner signals     2
+start               0
+
+state 0 (floor 0, empty, label 1):
+  own 0, partner 0: to 0
+  own 0, partner 1: to 0
+  own 1, partner 0: to 2
+  own 1, partner 1: to 2
+  own 3, partner 1: to 1
+";
+    check(lift(heap, 2, 2)?.as_str().starts_with(text))
 }
