@@ -14,7 +14,8 @@ use Rattle.std.proofs.shelf.Bits.{pow-pos, leading-top, div-below, mod-below, s
 use Rattle.reading.specs.Bytes.{bit}
 use Rattle.reading.proofs.Bits.{shift-some, shift-zero, bit-below, no-bit, bit-and}
 use Rattle.reading.proofs.FirstLaws.{not-true as false-not-true}
-use Rattle.games.specs.Sets.{has, row, after, all-below, filled, described, Described, inside, implies}
+use Rattle.reading.specs.Marks.{implies}
+use Rattle.games.specs.Sets.{has, row, after, all-below, filled, described, Described, inside}
 
 -- every index below n passes
 

@@ -5,6 +5,7 @@ use Prim.Native.Nat.{ℕ, zero, suc, _+_, _*_, _/_, _%_, _^_, _<_}
 use lib.Dec.{ltb, eqb}
 use lib.Bits.{bitAnd}
 use Rattle.reading.specs.Bytes.{bit}
+use Rattle.reading.specs.Marks.{implies}
 
 -- how many signals a phase has room for
 abbrev pub width : ℕ
@@ -44,10 +45,6 @@ pub record Described (w phases k set : ℕ) : Type 0 where
 -- whether every signal that one set has in a phase is in the other too
 abbrev pub inside : ℕ → ℕ → ℕ → ℕ → Bool
 inside w inner outer p = eqb (bitAnd (row w inner p) (row w outer p)) (row w inner p)
-
-abbrev pub implies : Bool → Bool → Bool
-implies true y = y
-implies false y = true
 
 -- the same in words of signals, in each phase
 abbrev pub Inside : ℕ → ℕ → ℕ → ℕ → Type 0

@@ -33,7 +33,7 @@ fn ends(set: u32, phases: u8) -> bool
 }
 
 /// Whether a set is as described for so many phases and signals.
-pub fn described(set: u32, phases: u8, signals: u8) -> bool
+pub(crate) fn described(set: u32, phases: u8, signals: u8) -> bool
     requires few_phases { ⌜ phases ≤ 8 ⌝ }
     requires few_signals { ⌜ signals ≤ 4 ⌝ }
     ensures { λ r. ⌜ r ≡ described width phases signals set ⌝ }
@@ -50,7 +50,7 @@ pub fn described(set: u32, phases: u8, signals: u8) -> bool
 }
 
 /// Whether every signal that one set has in a phase is in the other too.
-pub fn inside(inner: u32, outer: u32, phase: u8) -> bool
+pub(crate) fn inside(inner: u32, outer: u32, phase: u8) -> bool
     requires { ⌜ phase < 8 ⌝ }
     ensures { λ r. ⌜ r ≡ inside width inner outer phase ⌝ }
 {
@@ -59,7 +59,7 @@ pub fn inside(inner: u32, outer: u32, phase: u8) -> bool
 }
 
 /// Whether a set that is as described has a signal in a phase; out of range it has none.
-pub fn has(set: u32, phases: u8, signals: u8, phase: u8, signal: u8) -> bool
+pub(crate) fn has(set: u32, phases: u8, signals: u8, phase: u8, signal: u8) -> bool
     requires few_phases { ⌜ phases ≤ 8 ⌝ }
     requires few_signals { ⌜ signals ≤ 4 ⌝ }
     requires described { ⌜ described width phases signals set ≡ true ⌝ }

@@ -14,7 +14,7 @@ pub enum Part {
 }
 
 /// Row and column of an entry of a table; to count no columns as one keeps the division total.
-pub fn row_column(i: u16, columns: u8) -> (u16, u16)
+pub(crate) fn row_column(i: u16, columns: u8) -> (u16, u16)
     ensures row { λ r. ⌜ r .0 ≡ i / max columns 1 ⌝ }
     ensures whole { λ r. ⌜ (1 ≤ columns → r .0 * columns + r .1 ≡ i) ⌝ }
     ensures column { λ r. ⌜ (1 ≤ columns → r .1 < columns) ⌝ }
@@ -24,7 +24,7 @@ pub fn row_column(i: u16, columns: u8) -> (u16, u16)
 }
 
 /// The part at a place of a machine sheet: 8 bytes of fields, the labels, then two bytes for each key and each target.
-pub fn machine_part(place: u16, states: u16, moves: u16) -> Part
+pub(crate) fn machine_part(place: u16, states: u16, moves: u16) -> Part
     ensures { λ r. ⌜ (8 ≤ place → Stands states moves r place) ⌝ }
 {
     let behind = place.saturating_sub(8);
@@ -40,7 +40,7 @@ pub fn machine_part(place: u16, states: u16, moves: u16) -> Part
 }
 
 /// State and label whose next state stands at a place of a rule sheet.
-pub fn rule_entry(place: u16) -> (u16, u16)
+pub(crate) fn rule_entry(place: u16) -> (u16, u16)
     ensures whole { λ r. ⌜ (4 ≤ place → 4 + (r .0 * 8 + r .1) ≡ place) ⌝ }
     ensures label { λ r. ⌜ r .1 < 8 ⌝ }
 {
@@ -48,7 +48,7 @@ pub fn rule_entry(place: u16) -> (u16, u16)
 }
 
 /// Phase and signals whose next phase stands at a place of a phase table.
-pub fn phase_entry(place: u16, signals0: u8, signals1: u8) -> (u16, u16, u16)
+pub(crate) fn phase_entry(place: u16, signals0: u8, signals1: u8) -> (u16, u16, u16)
     ensures whole { λ r. ⌜ (3 ≤ place → 1 ≤ signals0 → 1 ≤ signals1 → 3 + ((r .0 * signals0 + r .1) * signals1 + r .2) ≡ place) ⌝ }
     ensures first { λ r. ⌜ (1 ≤ signals0 → r .1 < signals0) ⌝ }
     ensures second { λ r. ⌜ (1 ≤ signals1 → r .2 < signals1) ⌝ }
@@ -59,7 +59,7 @@ pub fn phase_entry(place: u16, signals0: u8, signals1: u8) -> (u16, u16, u16)
 }
 
 /// State and phase whose choice stands at a place of a controller record.
-pub fn record_position(place: u16, phases: u8) -> (u16, u16)
+pub(crate) fn record_position(place: u16, phases: u8) -> (u16, u16)
     ensures whole { λ r. ⌜ (4 ≤ place → 1 ≤ phases → 4 + (r .0 * phases + r .1) ≡ place) ⌝ }
     ensures phase { λ r. ⌜ (1 ≤ phases → r .1 < phases) ⌝ }
 {
@@ -67,7 +67,7 @@ pub fn record_position(place: u16, phases: u8) -> (u16, u16)
 }
 
 /// The first marked state from `low` up in the byte at a place of a mark sheet.
-pub fn marked_state(byte: u8, place: u16, low: u16) -> Option<u16>
+pub(crate) fn marked_state(byte: u8, place: u16, low: u16) -> Option<u16>
     ensures { λ r. ⌜ Cases r (Unit {0}) (λ s. (low ≤ s) × (s / 8 ≡ place % 32) × (bit byte (s % 8) ≡ true)) ⌝ }
 {
     for i in 0..8u8 {

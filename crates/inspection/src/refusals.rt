@@ -6,13 +6,13 @@ use crate::places::phase_entry;
 use crate::places::record_position;
 use crate::places::rule_entry;
 use crate::sheets::LIMIT;
+use reading::bytes::byte_at;
 use reading::faults::ReadFault;
 use std::alloc::AllocError;
 use std::alloc::Global;
 ghost use mathlib.Core.Path.{_≡_};
 ghost use Rattle.std.specs.Of.String.{string-bytes};
 ghost use Rattle.std.specs.Vec.{made};
-ghost use Rattle.reading.specs.Bytes.{byte};
 ghost use Rattle.reading.specs.Faults.{numbers};
 ghost use Rattle.inspection.specs.Refusals.{Refuses};
 
@@ -94,13 +94,6 @@ fn order(heap: Global, part: Part) -> Result<String, AllocError> {
         Part::Key(i) => format!(heap, "Move {i} does not come after the move before it."),
         Part::Label(_) | Part::Target(_) => String::from_str(heap, UNLAWFUL),
     }
-}
-
-/// A byte, or 0 past the end.
-fn byte_at(bytes: &[u8], i: usize) -> u8
-    ensures { λ r. ⌜ r ≡ byte (now (bytes .entry)) i ⌝ }
-{
-    if i < bytes.len() { bytes[i] } else { 0 }
 }
 
 /// A mark on a state that the machine does not have.
@@ -185,7 +178,7 @@ fn sentence(
 }
 
 /// A refused sheet: the fault's number and place, then what is wrong there.
-pub fn refusal(
+pub(crate) fn refusal(
     heap: Global,
     kind: Kind,
     bytes: &[u8],
@@ -200,7 +193,7 @@ pub fn refusal(
 }
 
 /// A lift that cannot be made.
-pub fn lift_refusal(heap: Global, fault: ReadFault) -> Result<String, AllocError>
+pub(crate) fn lift_refusal(heap: Global, fault: ReadFault) -> Result<String, AllocError>
     ensures { λ r. ⌜ made r (λ text. Refuses (numbers fault) (string-bytes text)) ⌝ }
 {
     let number = fault.number();

@@ -8,7 +8,7 @@ ghost use Rattle.reading.specs.Bytes.{byte, pair, bit};
 ghost use Rattle.reading.specs.Faults.{length-place};
 
 /// Two bytes as a number, the low byte first.
-pub fn two_bytes(low: u8, high: u8) -> u16
+pub(crate) fn two_bytes(low: u8, high: u8) -> u16
     ensures { λ r. ⌜ r ≡ low + 256 * high ⌝ }
 {
     low as u16 + 256 * high as u16
@@ -22,7 +22,7 @@ pub fn byte_at(bytes: &[u8], i: usize) -> u8
 }
 
 /// A two-byte number, the low byte first; bytes past the end are 0.
-pub fn pair_at(bytes: &[u8], i: usize) -> u16
+pub(crate) fn pair_at(bytes: &[u8], i: usize) -> u16
     ensures { λ r. ⌜ r ≡ pair (now (bytes .entry)) i ⌝ }
 {
     if i < bytes.len() {
@@ -33,14 +33,14 @@ pub fn pair_at(bytes: &[u8], i: usize) -> u16
 }
 
 /// The length as a place: at most 65,535.
-pub fn length_place(bytes: &[u8]) -> u16
+pub(crate) fn length_place(bytes: &[u8]) -> u16
     ensures { λ r. ⌜ r ≡ length-place (now (bytes .entry)) ⌝ }
 {
     bytes.len().min(65535) as u16
 }
 
 /// Whether a byte has a bit.
-pub fn has_bit(x: u8, i: u8) -> bool
+pub(crate) fn has_bit(x: u8, i: u8) -> bool
     requires { ⌜ i < 8 ⌝ }
     ensures { λ r. ⌜ r ≡ bit x i ⌝ }
 {
@@ -48,14 +48,14 @@ pub fn has_bit(x: u8, i: u8) -> bool
 }
 
 /// Whether a byte has a bit from `room` up.
-pub fn strays(x: u8, room: u16) -> bool
+pub(crate) fn strays(x: u8, room: u16) -> bool
     ensures { λ r. ⌜ r ≡ not (ltb x (2 ^ room)) ⌝ }
 {
     room < 8 && x >> room != 0
 }
 
 /// Copies bytes to the front of a buffer.
-pub fn put_front(buffer: &mut [u8], part: &[u8])
+pub(crate) fn put_front(buffer: &mut [u8], part: &[u8])
     requires { ⌜ length (now part) ≤ length (now buffer) ⌝ }
     ensures { λ _. ⌜ now (buffer .exit) ≡ now (part .entry) ++ drop (length (now (part .entry))) (now (buffer .entry)) ⌝ }
 {

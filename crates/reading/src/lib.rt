@@ -1,4 +1,4 @@
-mod bytes;
+pub mod bytes;
 mod entries;
 pub mod faults;
 pub mod machine_sheet;
