@@ -1,5 +1,7 @@
 //! Ranked controllers: whether a record is one, the best one that there is, and which positions can come up.
 
+#![tactic(auto)]
+
 pub mod check;
 pub mod faults;
 mod play;

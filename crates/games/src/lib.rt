@@ -1,3 +1,5 @@
+#![tactic(auto)]
+
 pub mod deal;
 pub mod lift;
 pub mod machine;

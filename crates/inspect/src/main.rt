@@ -1,4 +1,6 @@
 // Says in words what a sheet, a product of two sheets, or a lift means.
+#![tactic(auto)]
+
 use anyhow::anyhow;
 use inspection::kinds::Request;
 use inspection::machines::{lift, product};

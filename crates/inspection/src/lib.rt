@@ -1,5 +1,7 @@
 //! What a sheet, a product or a lift means, in words that a fitter reads.
 
+#![tactic(auto)]
+
 pub mod kinds;
 mod machine;
 pub mod machines;

@@ -1,3 +1,5 @@
+#![tactic(auto)]
+
 pub mod bytes;
 mod entries;
 pub mod faults;

@@ -1,5 +1,7 @@
 //! Examples: shown from the definitions, and as tests. They have a crate of their own so that the layers stay quick to prove.
 
+#![tactic(auto)]
+
 #[cfg(test)]
 mod deal_tests;
 #[cfg(test)]

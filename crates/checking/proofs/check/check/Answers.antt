@@ -8,16 +8,16 @@ use Rattle.checking.specs.Checks.{sized, plan_fault, check_fault, answer}
 use Rattle.checking.proofs.CheckLaws.{refuses, tells, unreadable, plan_next, ranked_from, bounded}
 use Rattle.checking.proofs.check.check.Goals as goal
 
-pub returns-in-err-plan : goal.returns-in-err-plan
-returns-in-err-plan g c =
+pub returns-in_err-plan : goal.returns-in_err-plan
+returns-in_err-plan g c =
     let m = g.G.Machine.meaning c.args.game.now in
     let k = g.G.Game.marks c.args.game.now in
     let w = g.met.G.Machine.lawful c.args.game.now in
     let t = c.args.table.now in
     let d = c.args.deal.now in
     let xs = c.args.bytes.now in
-    let p = err_from_is_err_and c.from-residual.result c.from-residual.ensures.1 in
-    let e = unreadable m t d c.args.side k w xs _ (sym c.if-not-suits.ensures) (sym c.in-err-plan.ensures.first) in
+    let p = err_from_is_err_and c.from_residual.result c.from_residual.ensures.1 in
+    let e = unreadable m t d c.args.side k w xs _ (sym c.if-not-suits.ensures) (sym c.in_err-plan.ensures.first) in
     rw (p.1, p.2) (record { first = tells m t d c.args.side k w xs _ e; ranked = refuses m t d c.args.side k w xs _ e; bound = tt })
 
 pub returns-in-Some : goal.returns-in-Some
@@ -28,10 +28,10 @@ returns-in-Some g c =
     let t = c.args.table.now in
     let d = c.args.deal.now in
     let xs = c.args.bytes.now in
-    let v = c.in-ok-plan.ensures.value in
+    let v = c.in_ok-plan.ensures.value in
     let z = subst (λ (r : Parts). sized m t r ≡ true) v (sym c.if-not-sized.ensures) in
     let f = subst (λ (r : Parts). plan_fault (arena m k t d c.args.side) (plan_of r) ≡ Some (numbers c.in-Some.fault)) v (sym c.in-Some.ensures) in
-    let e = plan_next m t d c.args.side k w xs (sym c.if-not-suits.ensures) (sym c.in-ok-plan.ensures.first) z ∙ f in
+    let e = plan_next m t d c.args.side k w xs (sym c.if-not-suits.ensures) (sym c.in_ok-plan.ensures.first) z ∙ f in
     record { first = tells m t d c.args.side k w xs _ e; ranked = refuses m t d c.args.side k w xs _ e; bound = tt }
 
 pub returns : goal.returns
@@ -42,12 +42,12 @@ returns g c =
     let t = c.args.table.now in
     let d = c.args.deal.now in
     let xs = c.args.bytes.now in
-    let v = c.in-ok-plan.ensures.value in
+    let v = c.in_ok-plan.ensures.value in
     let z = subst (λ (r : Parts). sized m t r ≡ true) v (sym c.if-not-sized.ensures) in
-    let f = subst (λ (r : Parts). plan_fault (arena m k t d c.args.side) (plan_of r) ≡ None) v (sym c.in-default.ensures) in
-    let e = plan_next m t d c.args.side k w xs (sym c.if-not-suits.ensures) (sym c.in-ok-plan.ensures.first) z ∙ f in
+    let f = subst (λ (r : Parts). plan_fault (arena m k t d c.args.side) (plan_of r) ≡ None) v (sym c.in_default.ensures) in
+    let e = plan_next m t d c.args.side k w xs (sym c.if-not-suits.ensures) (sym c.in_ok-plan.ensures.first) z ∙ f in
     let b : c.bound.result ≡ bound_of (parts_in xs) = c.bound.ensures ∙ ap bound_of v in
-    let top : bound_of (parts_in xs) ≤ 65535 = omega (arith, b, c.bound.type-inv) in
+    let top : bound_of (parts_in xs) ≤ 65535 = omega (arith, b, c.bound.type_inv) in
     let r = ranked_from m t d c.args.side k w xs top e in
     record {
       first = ap Ok b ∙ sym (ap (λ o. answer o (bound_of (parts_in xs))) e);

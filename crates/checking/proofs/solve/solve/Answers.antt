@@ -88,7 +88,7 @@ returns g c =
     let s = suits_from m t d side (sym c.if-not-suits.ensures) in
     let size = c.if-buffer-states.false ∙ ap (λ i. 4 + 3 * (i * c.phases.result)) c.states.ensures ∙ ap (λ i. 4 + 3 * (m.states * i)) c.phases.ensures in
     let kept : ranks_in (arena m k t d side) r m.start 0 < 65535 =
-    omega (arith, start_rank m k z t d side c.take.ensures r c.rank.result c.start.result c.start.ensures c.rank.ensures, c.if-rank.false, c.rank.type-inv) in
+    omega (arith, start_rank m k z t d side c.take.ensures r c.rank.result c.start.result c.start.ensures c.rank.ensures, c.if-rank.false, c.rank.type_inv) in
     found m k t d side w s r (over_bounded m k z t d side c.take.ensures) (over_stable m k z t d side c.take.ensures r c.settle.ensures)
     c.args.buffer.now c.write.new.buffer size (over_wrote m k z t d side c.take.ensures r c.write.new.buffer c.write.ensures)
     c.bound.result (c.bound.ensures ∙ ap bound_of c.in-Ok.ensures.value) kept

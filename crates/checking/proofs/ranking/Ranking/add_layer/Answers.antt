@@ -5,7 +5,7 @@ use Rattle.checking.proofs.PlayLaws.{bounded}
 use Rattle.checking.proofs.PlaceLaws.{written, zeros_same}
 use Rattle.checking.proofs.PassLaws.{layering_start, layering_keep, layering_turn, layering_add, layering_done, layering_quiet}
 use Rattle.checking.proofs.ranking.Ranking.add_layer.Goals as goal
-use Rattle.checking.proofs.ranking.Ranking.add_layer.Goals.{in-Some, in-default}
+use Rattle.checking.proofs.ranking.Ranking.add_layer.Goals.{in-Some, in_default}
 
 pub loop-phase-init : goal.loop-phase-init
 loop-phase-init c = (layering_start _ _ _ c.requires.few c.requires.layers c.requires.tracks, λ _. refl, refl)
@@ -29,7 +29,7 @@ loop-state-preserved c =
             λ h. absurd (true≢false h),
             zeros_same (played y) b _ _ hs hp c.loop-state.self w.give.new.self c.args.depth e.ranks c.requires.some (omega (arith, j.fresh)) ∙ i.2,
           ))
-      | in-default w ↦ rw (w.self-is, w.next-is, w.added-is) (layering_keep (played y) b _ _ _ _ _ i.0 w.in-default.ensures, i.1, i.2)
+      | in_default w ↦ rw (w.self-is, w.next-is, w.added-is) (layering_keep (played y) b _ _ _ _ _ i.0 w.in_default.ensures, i.1, i.2)
     ]
 
 pub loop-phase-preserved : goal.loop-phase-preserved

@@ -4,13 +4,13 @@ use Rattle.checking.proofs.AttractorLaws.{layer_stops}
 use Rattle.checking.proofs.PassLaws.{tracks_top}
 use Rattle.checking.proofs.ranking.Ranking.attract.Goals as goal
 
-pub returns-then-not-add-layer : goal.returns-then-not-add-layer
-returns-then-not-add-layer c =
-    let s = c.add-layer.ensures.stops c.if-not-add-layer.true in
+pub returns-then-not-add_layer : goal.returns-then-not-add_layer
+returns-then-not-add_layer c =
+    let s = c.add_layer.ensures.stops c.if-not-add_layer.true in
     record {
       layers = layer_stops (played c.args.play.now) _ _ c.loop-depth.depth (omega arith) (omega arith) s;
-      tracks = tracks_top (played c.args.play.now) _ _ _ 65535 (omega arith) (λ t q h. omega (arith, s.low t q h)) c.add-layer.ensures.tracks;
-      zeros = c.add-layer.ensures.zeros ∙ c.loop-depth.invariant.2;
+      tracks = tracks_top (played c.args.play.now) _ _ _ 65535 (omega arith) (λ t q h. omega (arith, s.low t q h)) c.add_layer.ensures.tracks;
+      zeros = c.add_layer.ensures.zeros ∙ c.loop-depth.invariant.2;
     }
 
 pub returns : goal.returns

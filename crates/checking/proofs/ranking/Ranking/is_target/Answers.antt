@@ -17,7 +17,7 @@ returns c =
     let y = c.args.play.now in (
       λ e. record {
         zero = rank_here (played y) (bounded y) c.args.state c.args.phase c.requires.state c.requires.phase c.args.self.now ∙ sym c.rank.ensures ∙ c.if-rank-ne0.false;
-        goal = sym c.if-not-is-goal.ensures;
+        goal = sym c.if-not-is_goal.ensures;
         safe = sym c.forbids.ensures ∙ not-true _ e;
       },
       λ w. not_from_false _ (c.forbids.ensures ∙ w.safe),

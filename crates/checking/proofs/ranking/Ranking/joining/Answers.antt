@@ -22,5 +22,5 @@ returns c =
     let y = c.args.play.now in
     joined (played y) c.args.self.now c.args.state c.args.phase
     (rank_here (played y) (bounded y) c.args.state c.args.phase c.requires.state c.requires.phase c.args.self.now ∙ sym c.rank.ensures ∙ c.if-rank.false)
-    (record { state = c.requires.state; phase = c.requires.phase; no_goal = sym c.if-is-goal.ensures; safe = sym c.if-forbids.ensures })
+    (record { state = c.requires.state; phase = c.requires.phase; no_goal = sym c.if-is_goal.ensures; safe = sym c.if-forbids.ensures })
     c.first.result c.first.ensures

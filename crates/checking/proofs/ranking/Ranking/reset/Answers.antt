@@ -6,7 +6,7 @@ use Rattle.checking.proofs.PlaceLaws.{written, zeros_few}
 use Rattle.checking.proofs.SnapshotLaws.{gather_none, gather_put}
 use Rattle.checking.proofs.PassLaws.{resetting_start, resetting_keep, resetting_clear, kept_clear, resetting_turn, resetting_layers, resetting_tracks}
 use Rattle.checking.proofs.ranking.Ranking.reset.Goals as goal
-use Rattle.checking.proofs.ranking.Ranking.reset.Goals.{then-is-target, else-is-target}
+use Rattle.checking.proofs.ranking.Ranking.reset.Goals.{then-is_target, else-is_target}
 
 pub loop-phase-init : goal.loop-phase-init
 loop-phase-init c = (resetting_start _ _ c.requires, omega arith)
@@ -21,17 +21,17 @@ loop-state-preserved c =
     let i = c.loop-state.invariant in
     let hs : c.loop-state.state < (played y).states = omega (arith, c.states-state-end.ensures, c.loop-state-test.true) in
     let hp : c.loop-phase.phase < (played y).phases = omega (arith, c.phases-phase-end.ensures, c.loop-phase-test.true) in
-    elim c.if-is-target.branch [
-      | then-is-target w ↦ (let t = w.if-is-target.ensures.0 refl in rw (w.self-is, w.set-is) (
+    elim c.if-is_target.branch [
+      | then-is_target w ↦ (let t = w.if-is_target.ensures.0 refl in rw (w.self-is, w.set-is) (
         resetting_keep _ _ _ _ hs hp i.0 t,
         gather_put _ _ c.loop-state.state i.1 _ w.insert.ensures (ap (λ n. ltb n 1) t.zero),
         i.2,
       ))
-      | else-is-target w ↦ (let e = w.give.ensures in
+      | else-is_target w ↦ (let e = w.give.ensures in
           let v = written (played y) b _ _ hs hp c.loop-state.self w.give.new.self _ _ e.ranks e.choices in
           rw (w.self-is, w.set-is) (
-            resetting_clear _ _ _ _ hs hp i.0 _ v e.sets (λ t. false≢true (w.if-is-target.ensures.1 t)),
-            kept_clear _ _ _ _ hs hp i.0 _ v e.sets (λ t. false≢true (w.if-is-target.ensures.1 t)) _ i.1,
+            resetting_clear _ _ _ _ hs hp i.0 _ v e.sets (λ t. false≢true (w.if-is_target.ensures.1 t)),
+            kept_clear _ _ _ _ hs hp i.0 _ v e.sets (λ t. false≢true (w.if-is_target.ensures.1 t)) _ i.1,
             omega (arith, zeros_few (played y) b _ _ hs hp c.loop-state.self w.give.new.self 65535 e.ranks (omega arith), i.2),
           ))
     ]

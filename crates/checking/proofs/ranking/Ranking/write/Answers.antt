@@ -56,12 +56,12 @@ pub loop-place-preserved : goal.loop-place-preserved
 loop-place-preserved c =
     let y = c.args.play.now in
     let e : c.states.result * c.phases-phases.result ≡ (played y).states * (played y).phases = ap (λ i. i * c.phases-phases.result) c.states.ensures ∙ ap (λ i. (played y).states * i) c.phases-phases.ensures in
-    writing_next (played y) c.args.self.now _ _ c.loop-place.place c.loop-place.invariant (omega (arith, e, c.loop-place-test.true)) c.put-entry.ensures.head
-    (entry_is (played y) (bounded y) c.loop-place.place _ _ c.states.ensures c.phases-phases.ensures c.loop-place-test.true c.args.self.now _ _ _ c.choice-choice.ensures c.rank-rank.ensures c.put-entry.ensures.entry)
-    (rw e at c.put-entry.ensures.others) (λ i. (c.type-inv.buffer i).fits)
+    writing_next (played y) c.args.self.now _ _ c.loop-place.place c.loop-place.invariant (omega (arith, e, c.loop-place-test.true)) c.put_entry.ensures.head
+    (entry_is (played y) (bounded y) c.loop-place.place _ _ c.states.ensures c.phases-phases.ensures c.loop-place-test.true c.args.self.now _ _ _ c.choice-choice.ensures c.rank-rank.ensures c.put_entry.ensures.entry)
+    (rw e at c.put_entry.ensures.others) (λ i. (c.type_inv.buffer i).fits)
 
 pub returns : goal.returns
 returns c =
     let y = c.args.play.now in
     let e : c.states.result * c.phases-phases.result ≡ (played y).states * (played y).phases = ap (λ i. i * c.phases-phases.result) c.states.ensures ∙ ap (λ i. (played y).states * i) c.phases-phases.ensures in
-    writing_done (played y) c.args.self.now (bounded y) _ c.loop-place.place (c.loop-place.auto.buffer ∙ simp length-set c.put-pair.auto.buffer ∙ c.requires) (omega (arith, e, c.loop-place-test.false)) c.loop-place.invariant
+    writing_done (played y) c.args.self.now (bounded y) _ c.loop-place.place (c.loop-place.auto.buffer ∙ simp length-set c.put_pair.auto.buffer ∙ c.requires) (omega (arith, e, c.loop-place-test.false)) c.loop-place.invariant

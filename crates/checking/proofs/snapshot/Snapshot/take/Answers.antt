@@ -12,7 +12,7 @@ returns g c =
       own = c.own-self.ensures;
       partner = c.partner-self.ensures;
       start = c.start-self.ensures;
-      moves = moves_taken m w _ c.states-self.ensures _ c.fill-rows.ensures.rows;
-      forbidden = forbidden_taken m w _ c.states-self.ensures k _ c.forbidden-states-self.ensures;
-      goals = goals_taken m w _ c.states-self.ensures k _ c.goal-states-self.ensures;
+      moves = moves_taken m w _ c.states-self.ensures _ c.fill_rows.ensures.rows;
+      forbidden = forbidden_taken m w _ c.states-self.ensures k _ c.forbidden_states-self.ensures;
+      goals = goals_taken m w _ c.states-self.ensures k _ c.goal_states-self.ensures;
     }

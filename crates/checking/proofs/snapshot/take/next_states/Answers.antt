@@ -2,15 +2,15 @@ use Rattle.std.proofs.Common.{◌≡◌, sym, arith}
 use Rattle.games.specs.Machines.{forbidden_in, goal_in}
 use Rattle.checking.proofs.SnapshotLaws.{gather_none, gather_put, gather_skip, gathered_in, gathered_all}
 use Rattle.checking.proofs.snapshot.take.next_states.Goals as goal
-use Rattle.checking.proofs.snapshot.take.next_states.Goals.{then-may-move, else-may-move}
+use Rattle.checking.proofs.snapshot.take.next_states.Goals.{then-may_move, else-may_move}
 
 pub loop-next-init : goal.loop-next-init
 loop-next-init g c = rw c.empty-set.ensures (gather_none _)
 
 pub loop-next-preserved : goal.loop-next-preserved
-loop-next-preserved g c = elim c.if-may-move.branch [
-  | then-may-move w ↦ rw w.set-is (gather_put _ _ c.loop-next.next c.loop-next.invariant _ w.insert.ensures (sym w.if-may-move.ensures))
-  | else-may-move w ↦ rw w.set-is (gather_skip _ _ c.loop-next.next c.loop-next.invariant (sym w.if-may-move.ensures))
+loop-next-preserved g c = elim c.if-may_move.branch [
+  | then-may_move w ↦ rw w.set-is (gather_put _ _ c.loop-next.next c.loop-next.invariant _ w.insert.ensures (sym w.if-may_move.ensures))
+  | else-may_move w ↦ rw w.set-is (gather_skip _ _ c.loop-next.next c.loop-next.invariant (sym w.if-may_move.ensures))
 ]
 
 pub returns : goal.returns

@@ -5,24 +5,24 @@ use Rattle.reading.specs.MachineSheets.{sheet_of}
 use Rattle.games.proofs.SheetLaws.{loadable, loaded}
 use Rattle.games.proofs.sheet_machine.SheetMachine.load.Goals as goal
 
-pub copy-labels-requires : goal.copy-labels-requires
-copy-labels-requires c =
-    let w = c.in-ok-sheet.ensures in
+pub copy_labels-requires : goal.copy_labels-requires
+copy_labels-requires c =
+    let w = c.in_ok-sheet.ensures in
     let f = loadable _ _ w.value (w.lawful.0 refl) in
     omega (arith, ap length (ap (λ x. x.now) c.labels.ensures), f.labelled, f.ranged.few_states, c.args.self.now.label_room)
 
-pub copy-moves-requires : goal.copy-moves-requires
-copy-moves-requires c =
-    let w = c.in-ok-sheet.ensures in
+pub copy_moves-requires : goal.copy_moves-requires
+copy_moves-requires c =
+    let w = c.in_ok-sheet.ensures in
     let f = loadable _ _ w.value (w.lawful.0 refl) in
     omega (arith, f.ranged.few_moves, c.args.self.now.move_room)
 
-pub invariant-of-self : goal.invariant-of-self
-invariant-of-self c =
-    let w = c.in-ok-sheet.ensures in
+pub invariant_of-self : goal.invariant_of-self
+invariant_of-self c =
+    let w = c.in_ok-sheet.ensures in
     let f = loadable _ _ w.value (w.lawful.0 refl) in
     let r = f.ranged in
-    let l = c.copy-labels.ensures.items ∙ ap (λ x. x.now) c.labels.ensures in (
+    let l = c.copy_labels.ensures.items ∙ ap (λ x. x.now) c.labels.ensures in (
       r.some_states,
       (
         r.few_states,
@@ -37,12 +37,12 @@ invariant-of-self c =
                 (
                   r.starts,
                   (
-                    c.copy-labels.new.labels.ok.0 ∙ ap length l ∙ f.labelled,
+                    c.copy_labels.new.labels.ok.0 ∙ ap length l ∙ f.labelled,
                     (
                       subst (AllBelow 8) (sym l) f.low,
                       (
-                        omega (arith, c.copy-labels.ensures.room, c.args.self.now.label_room),
-                        (omega (arith, c.copy-moves.ensures.room, c.args.self.now.move_room), tt),
+                        omega (arith, c.copy_labels.ensures.room, c.args.self.now.label_room),
+                        (omega (arith, c.copy_moves.ensures.room, c.args.self.now.move_room), tt),
                       ),
                     ),
                   ),
@@ -54,15 +54,15 @@ invariant-of-self c =
       ),
     )
 
-pub returns-in-err-sheet : goal.returns-in-err-sheet
-returns-in-err-sheet c =
-    let p = err_from_is_err_and c.from-residual.result c.from-residual.ensures.1 in
-    rw (p.1, p.2) (record { first = c.in-err-sheet.ensures.first; value = refl })
+pub returns-in_err-sheet : goal.returns-in_err-sheet
+returns-in_err-sheet c =
+    let p = err_from_is_err_and c.from_residual.result c.from_residual.ensures.1 in
+    rw (p.1, p.2) (record { first = c.in_err-sheet.ensures.first; value = refl })
 
 pub returns : goal.returns
 returns c =
-    let w = c.in-ok-sheet.ensures in
+    let w = c.in_ok-sheet.ensures in
     record {
       first = w.first;
-      value = loaded c.args.bytes.now (sheet_of c.in-ok-sheet.sheet) _ _ w.value (c.copy-labels.ensures.items ∙ ap (λ x. x.now) c.labels.ensures) c.copy-moves.ensures.items;
+      value = loaded c.args.bytes.now (sheet_of c.in_ok-sheet.sheet) _ _ w.value (c.copy_labels.ensures.items ∙ ap (λ x. x.now) c.labels.ensures) c.copy_moves.ensures.items;
     }

@@ -12,10 +12,10 @@ loop-i-preserved c =
     let s = sheet_of c.args.sheet.now in
     let i = c.loop-i.i in
     let e = move_is c.entry.result _ _ c.entry.ensures.key c.entry.ensures.target in (
-      c.push-reserved.ensures.items
+      c.push_reserved.ensures.items
           ∙ ap (λ (ms : List Move). ms ++ c.entry.result ∷ []) c.loop-i.invariant.0
           ∙ ap (λ (m : Move). map (move_at s) (range_with_len 0 i) ++ m ∷ []) e
           ∙ sym (map-range_with_len_more (move_at s) 0 i i (omega arith)),
-      omega (arith, c.push-reserved.ensures.len, c.loop-i.invariant.1),
-      c.push-reserved.ensures.capacity ∙ c.loop-i.invariant.2,
+      omega (arith, c.push_reserved.ensures.len, c.loop-i.invariant.1),
+      c.push_reserved.ensures.capacity ∙ c.loop-i.invariant.2,
     )

@@ -7,9 +7,9 @@ use Rattle.games.proofs.watched.Watched.watch.Goals as goal
 
 pub returns : goal.returns
 returns g c =
-    let w = c.in-ok-self.ensures in
+    let w = c.in_ok-self.ensures in
     let m = g.M.Machine.meaning c.args.self.now.below in
-    let rule = c.in-ok-self.field-0 in
+    let rule = c.in_ok-self.field-0 in
     let sound : Sound (automaton_of rule) = record { some_states = rule.some_states; few_states = rule.few_states; starts = rule.starts; closed = rule.closed } in
     let n = c.states-states.ensures in
     let small = subst (λ (k : ℕ). k * rule.states ≤ 256) n (subst (λ (a : Automaton). c.states-states.result * a.states ≤ 256) (sym w.value) (w.lawful.0 refl).small) in

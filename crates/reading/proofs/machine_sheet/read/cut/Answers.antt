@@ -7,6 +7,6 @@ pub returns : goal.returns
 returns c =
     let xs = c.args.bytes.now in
     let l : 8 ≤ length xs = omega (arith, ltb-false) in
-    cut_parts xs _ _ _ _ _ _ _ _ l c.two-bytes.ensures c.two-bytes-2.ensures c.two-bytes-3.ensures
-    c.in-default-field-fault.ensures (take_rest xs 8) c.if-rest-states.false
-    c.split-at.ensures.front c.split-at.ensures.back c.split-at-2.ensures.front c.split-at-2.ensures.back
+    cut_parts xs _ _ _ _ _ _ _ _ l c.two_bytes.ensures c.two_bytes-2.ensures c.two_bytes-3.ensures
+    c.in_default-field_fault.ensures (take_rest xs 8) c.if-rest-states.false
+    c.split_at.ensures.front c.split_at.ensures.back c.split_at-2.ensures.front c.split_at-2.ensures.back

@@ -3,7 +3,11 @@ use Rattle.reading.specs.Marks.{marked, implies}
 use Rattle.reading.proofs.MarkLaws.{none_marked}
 use Rattle.reading.proofs.mark_sheet.MarkSheet.new.Goals as goal
 
-pub invariant-of-result : goal.invariant-of-result
-invariant-of-result c =
+pub invariant_of-result : goal.invariant_of-result
+invariant_of-result c =
     let n = c.args.states in
-    ((λ s. rw (none_marked s) refl), ((λ s. rw (none_marked s) refl), ((λ s. rw (none_marked s) refl), tt)))
+    record {
+      forbidden_inside = λ s. rw (none_marked s) refl;
+      goals_inside = λ s. rw (none_marked s) refl;
+      apart = λ s. rw (none_marked s) refl;
+    }

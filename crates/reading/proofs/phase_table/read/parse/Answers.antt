@@ -7,52 +7,43 @@ use Rattle.reading.proofs.Padding.{front_of_zeros, closed_from}
 use Rattle.reading.specs.Bytes.{padded}
 use Rattle.reading.proofs.phase_table.read.parse.Goals as goal
 
-pub entry-fault-requires : goal.entry-fault-requires
-entry-fault-requires c =
+pub entry_fault-requires : goal.entry_fault-requires
+entry_fault-requires c =
     let xs = c.args.bytes.now in
-    omega (arith, few_entries (get_or xs 0 0) (get_or xs 1 0) (get_or xs 2 0) c.in-default-field-fault.ensures, c.if-rest-phases.false)
+    omega (arith, few_entries (get_or xs 0 0) (get_or xs 1 0) (get_or xs 2 0) c.in_default-field_fault.ensures, c.if-rest-phases.false)
 
-pub returns-in-Some-entry-fault : goal.returns-in-Some-entry-fault
-returns-in-Some-entry-fault c =
+pub returns-in-Some-entry_fault : goal.returns-in-Some-entry_fault
+returns-in-Some-entry_fault c =
     let xs = c.args.bytes.now in
     let l : 3 ≤ length xs = omega (arith, ltb-false) in
-    record { first = c.in-Some-entry-fault.ensures ∙ entries_next xs _ l c.in-default-field-fault.ensures (take_rest xs 3) c.if-rest-phases.false; value = tt }
+    record { first = c.in-Some-entry_fault.ensures ∙ entries_next xs _ l c.in_default-field_fault.ensures (take_rest xs 3) c.if-rest-phases.false; value = tt }
 
-pub put-front-requires : goal.put-front-requires
-put-front-requires c =
+pub put_front-requires : goal.put_front-requires
+put_front-requires c =
     let xs = c.args.bytes.now in
-    omega (arith, few_entries (get_or xs 0 0) (get_or xs 1 0) (get_or xs 2 0) c.in-default-field-fault.ensures, c.if-rest-phases.false)
+    omega (arith, few_entries (get_or xs 0 0) (get_or xs 1 0) (get_or xs 2 0) c.in_default-field_fault.ensures, c.if-rest-phases.false)
 
-pub invariant-of-result : goal.invariant-of-result
-invariant-of-result c =
+pub invariant_of-result : goal.invariant_of-result
+invariant_of-result c =
     let xs = c.args.bytes.now in
     let rest : List ℕ = take (length xs - 3) (drop 3 xs) in
-    let f = fields_from _ _ _ c.in-default-field-fault.ensures in
-    let held = c.put-front.ensures ∙ front_of_zeros 128 rest in (
-      f.phases.0,
-      (
-        f.phases.1,
-        (
-          f.signals0.0,
-          (
-            f.signals0.1,
-            (
-              f.signals1.0,
-              (
-                f.signals1.1,
-                (closed_from 128 _ rest _ held f.phases.0 (entries_below rest _ 3 (sym c.in-default-entry-fault.ensures)), tt),
-              ),
-            ),
-          ),
-        ),
-      ),
-    )
+    let f = fields_from _ _ _ c.in_default-field_fault.ensures in
+    let held = c.put_front.ensures ∙ front_of_zeros 128 rest in
+    record {
+      some_phases = f.phases.0;
+      few_phases = f.phases.1;
+      some0 = f.signals0.0;
+      few0 = f.signals0.1;
+      some1 = f.signals1.0;
+      few1 = f.signals1.1;
+      closed = closed_from 128 _ rest _ held f.phases.0 (entries_below rest _ 3 (sym c.in_default-entry_fault.ensures));
+    }
 
 pub returns : goal.returns
 returns c =
     let xs = c.args.bytes.now in
     let l : 3 ≤ length xs = omega (arith, ltb-false) in
     record {
-      first = c.in-default-entry-fault.ensures ∙ entries_next xs _ l c.in-default-field-fault.ensures (take_rest xs 3) c.if-rest-phases.false;
-      value = table_with xs _ (c.put-front.ensures ∙ front_of_zeros 128 _ ∙ ap (padded 128) (take_rest xs 3));
+      first = c.in_default-entry_fault.ensures ∙ entries_next xs _ l c.in_default-field_fault.ensures (take_rest xs 3) c.if-rest-phases.false;
+      value = table_with xs _ (c.put_front.ensures ∙ front_of_zeros 128 _ ∙ ap (padded 128) (take_rest xs 3));
     }

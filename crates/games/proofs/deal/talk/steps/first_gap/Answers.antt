@@ -11,7 +11,7 @@ returns-in-Some c =
     record { first = e; words = gapped _ _ _ _ e }
 
 pub loop-p-preserved : goal.loop-p-preserved
-loop-p-preserved c = none_more c.loop-p.p _ c.loop-p.invariant (sym c.in-default.ensures)
+loop-p-preserved c = none_more c.loop-p.p _ c.loop-p.invariant (sym c.in_default.ensures)
 
 pub returns : goal.returns
 returns c =
