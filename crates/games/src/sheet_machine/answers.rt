@@ -22,7 +22,7 @@ fn lists(moves: &[Move], key: u16, target: u16) -> bool
 impl Machine for SheetMachine {
     ghost meaning = { machine_of };
 
-    ghost lawful = { first_some (Prim.search rules, Prim.grind (arith, Self.row.coded.inj)) };
+    ghost lawful = { first_of (Prim.search rules, Prim.grind (arith, Self.row.coded.inj)) };
 
     fn states(&self) -> u16 {
         self.states

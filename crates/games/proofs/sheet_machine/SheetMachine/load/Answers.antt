@@ -22,37 +22,20 @@ invariant_of-self c =
     let w = c.in_ok-sheet.ensures in
     let f = loadable _ _ w.value (w.lawful.0 refl) in
     let r = f.ranged in
-    let l = c.copy_labels.ensures.items ∙ ap (λ x. x.now) c.labels.ensures in (
-      r.some_states,
-      (
-        r.few_states,
-        (
-          r.some_own,
-          (
-            r.few_own,
-            (
-              r.some_partner,
-              (
-                r.few_partner,
-                (
-                  r.starts,
-                  (
-                    c.copy_labels.new.labels.ok.0 ∙ ap length l ∙ f.labelled,
-                    (
-                      subst (AllBelow 8) (sym l) f.low,
-                      (
-                        omega (arith, c.copy_labels.ensures.room, c.args.self.now.label_room),
-                        (omega (arith, c.copy_moves.ensures.room, c.args.self.now.move_room), tt),
-                      ),
-                    ),
-                  ),
-                ),
-              ),
-            ),
-          ),
-        ),
-      ),
-    )
+    let l = c.copy_labels.ensures.items ∙ ap (λ x. x.now) c.labels.ensures in
+    record {
+      some_states = r.some_states;
+      few_states = r.few_states;
+      some_own = r.some_own;
+      few_own = r.few_own;
+      some_partner = r.some_partner;
+      few_partner = r.few_partner;
+      starts = r.starts;
+      labelled = c.copy_labels.new.labels.ok.0 ∙ ap length l ∙ f.labelled;
+      labels_low = subst (AllBelow 8) (sym l) f.low;
+      label_room = omega (arith, c.copy_labels.ensures.room, c.args.self.now.label_room);
+      move_room = omega (arith, c.copy_moves.ensures.room, c.args.self.now.move_room);
+    }
 
 pub returns-in_err-sheet : goal.returns-in_err-sheet
 returns-in_err-sheet c =
