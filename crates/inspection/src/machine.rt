@@ -5,7 +5,7 @@ ghost use Rattle.inspection.specs.Sources.{state_of, state_at, opens_at};
 use crate::places::row_column;
 use crate::sheets::Describe;
 use reading::machine_sheet::MachineSheet;
-use std::fmt;
+use std::alloc::AllocError;
 
 /// Where a move starts: a state, and the signals that both sides show there.
 #[derive(Clone, Copy)]
@@ -69,7 +69,7 @@ fn closes(sheet: &MachineSheet<'_>, i: u16) -> bool
 }
 
 /// One line for all targets of a key: the move that opens the key begins it.
-fn write_move(out: &mut String, sheet: &MachineSheet<'_>, i: u16) -> fmt::Result {
+fn write_move(out: &mut String, sheet: &MachineSheet<'_>, i: u16) -> Result<(), AllocError> {
     let target = sheet.entry(i).target;
     if opens(sheet, i) {
         let Source { own, partner, .. } = source_at(sheet, i);
@@ -82,7 +82,12 @@ fn write_move(out: &mut String, sheet: &MachineSheet<'_>, i: u16) -> fmt::Result
 }
 
 /// The moves of one state, which are those from `from` up to `end`.
-fn write_moves(out: &mut String, sheet: &MachineSheet<'_>, from: u16, end: u16) -> fmt::Result {
+fn write_moves(
+    out: &mut String,
+    sheet: &MachineSheet<'_>,
+    from: u16,
+    end: u16,
+) -> Result<(), AllocError> {
     let mut keys: u16 = 0;
     for i in from..end {
         write_move(out, sheet, i)?;
@@ -99,13 +104,13 @@ fn write_moves(out: &mut String, sheet: &MachineSheet<'_>, from: u16, end: u16) 
     }
 }
 
-fn write_heading(out: &mut String, sheet: &MachineSheet<'_>, state: u16) -> fmt::Result {
+fn write_heading(out: &mut String, sheet: &MachineSheet<'_>, state: u16) -> Result<(), AllocError> {
     let label = sheet.label(state);
     let start = if state == sheet.start { ", start" } else { "" };
     write!(out, "state {state} (label {label}{start}):")
 }
 
-fn write_sizes(out: &mut String, sheet: &MachineSheet<'_>) -> fmt::Result {
+fn write_sizes(out: &mut String, sheet: &MachineSheet<'_>) -> Result<(), AllocError> {
     writeln!(
         out,
         "machine sheet\n\
@@ -120,7 +125,7 @@ fn write_sizes(out: &mut String, sheet: &MachineSheet<'_>) -> fmt::Result {
 
 impl Describe for MachineSheet<'_> {
     /// The sizes, then each state with its label and its moves.
-    fn describe(&self, out: &mut String) -> fmt::Result {
+    fn describe(&self, out: &mut String) -> Result<(), AllocError> {
         write_sizes(out, self)?;
         let mut from = 0;
         for state in 0..self.states {

@@ -9,7 +9,6 @@ use games::machine::{Game, Machine};
 use games::sheet_machine::SheetMachine;
 use games::watched::Watched;
 use std::alloc::{AllocError, Global};
-use std::fmt;
 
 /// One line for the next states under two signals, if there are any.
 fn write_nexts<M: Machine>(
@@ -18,7 +17,7 @@ fn write_nexts<M: Machine>(
     state: u16,
     own: u8,
     partner: u8,
-) -> fmt::Result {
+) -> Result<(), AllocError> {
     let mut some = false;
     for next in 0..machine.states() {
         if !machine.may_move(state, own, partner, next) {
@@ -35,7 +34,7 @@ fn write_nexts<M: Machine>(
 }
 
 /// The moves of a state, a line for each pair of signals that has one.
-fn write_moves<M: Machine>(out: &mut String, machine: &M, state: u16) -> fmt::Result {
+fn write_moves<M: Machine>(out: &mut String, machine: &M, state: u16) -> Result<(), AllocError> {
     for own in 0..machine.own() {
         for partner in 0..machine.partner() {
             write_nexts(out, machine, state, own, partner)?;
@@ -44,7 +43,7 @@ fn write_moves<M: Machine>(out: &mut String, machine: &M, state: u16) -> fmt::Re
     Ok(())
 }
 
-fn write_sizes<M: Machine>(out: &mut String, machine: &M) -> fmt::Result {
+fn write_sizes<M: Machine>(out: &mut String, machine: &M) -> Result<(), AllocError> {
     let states = machine.states();
     let own = machine.own();
     let partner = machine.partner();
@@ -59,7 +58,12 @@ fn write_sizes<M: Machine>(out: &mut String, machine: &M) -> fmt::Result {
 }
 
 /// A watched state: the state below, the automaton's state, the label and the marks.
-fn write_watched<G: Game>(out: &mut String, game: &G, count: u16, state: u16) -> fmt::Result {
+fn write_watched<G: Game>(
+    out: &mut String,
+    game: &G,
+    count: u16,
+    state: u16,
+) -> Result<(), AllocError> {
     if count > 0 {
         let below = state / count;
         let read = state % count;
@@ -77,7 +81,7 @@ fn write_watched<G: Game>(out: &mut String, game: &G, count: u16, state: u16) ->
     write_moves(out, game, state)
 }
 
-fn describe_product<G: Game>(out: &mut String, game: &G, count: u16) -> fmt::Result {
+fn describe_product<G: Game>(out: &mut String, game: &G, count: u16) -> Result<(), AllocError> {
     writeln!(out, "machine watched by an automaton")?;
     write_sizes(out, game)?;
     for state in 0..game.states() {
@@ -86,7 +90,7 @@ fn describe_product<G: Game>(out: &mut String, game: &G, count: u16) -> fmt::Res
     Ok(())
 }
 
-fn describe_lift(out: &mut String, lift: &Lift) -> fmt::Result {
+fn describe_lift(out: &mut String, lift: &Lift) -> Result<(), AllocError> {
     writeln!(out, "lift")?;
     write_sizes(out, lift)?;
     for state in 0..lift.states() {
@@ -99,14 +103,6 @@ fn describe_lift(out: &mut String, lift: &Lift) -> fmt::Result {
     Ok(())
 }
 
-/// What was written, or want of memory, which is all that a `String` refuses for.
-fn written(out: String, res: fmt::Result) -> Result<String, AllocError> {
-    match res {
-        Ok(()) => Ok(out),
-        Err(_) => Err(AllocError),
-    }
-}
-
 /// A lift of so many floors, for a partner with so many signals, or why there is none.
 pub fn lift(heap: Global, floors: u8, signals: u8) -> Result<String, AllocError>
     ensures { IfOk result (λ text. Tells (lift_fault floors signals) (string_bytes text)) }
@@ -114,8 +110,8 @@ pub fn lift(heap: Global, floors: u8, signals: u8) -> Result<String, AllocError>
     match Lift::new(floors, signals) {
         Ok(lift) => {
             let mut out = String::new(heap);
-            let result = describe_lift(&mut out, &lift);
-            written(out, result)
+            describe_lift(&mut out, &lift)?;
+            Ok(out)
         }
         Err(fault) => lift_refusal(heap, fault),
     }
@@ -136,6 +132,6 @@ pub fn product(heap: Global, machine: &[u8], rule: &[u8]) -> Result<String, Allo
     }
     let mut out = String::new(heap);
     let count = game.states() / states;
-    let result = describe_product(&mut out, &game, count);
-    written(out, result)
+    describe_product(&mut out, &game, count)?;
+    Ok(out)
 }

@@ -5,7 +5,7 @@ ghost use Rattle.inspection.specs.Tallies.{set_of, tally};
 
 use crate::sheets::Describe;
 use reading::mark_sheet::MarkSheet;
-use std::fmt;
+use std::alloc::AllocError;
 
 /// A mark sheet has bits for so many states.
 const STATES: u16 = 256;
@@ -49,7 +49,7 @@ impl Mark {
 }
 
 /// The states with a mark, sixteen to a line.
-fn write_states(out: &mut String, sheet: &MarkSheet, mark: Mark) -> fmt::Result {
+fn write_states(out: &mut String, sheet: &MarkSheet, mark: Mark) -> Result<(), AllocError> {
     let mut written: u16 = 0;
     for state in 0..STATES {
         if mark.holds(sheet, state) {
@@ -61,7 +61,7 @@ fn write_states(out: &mut String, sheet: &MarkSheet, mark: Mark) -> fmt::Result 
     writeln!(out)
 }
 
-fn write_set(out: &mut String, sheet: &MarkSheet, mark: Mark) -> fmt::Result {
+fn write_set(out: &mut String, sheet: &MarkSheet, mark: Mark) -> Result<(), AllocError> {
     let name = mark.name();
     match mark.count(sheet) {
         0 => writeln!(out, "{name}: none"),
@@ -74,7 +74,7 @@ fn write_set(out: &mut String, sheet: &MarkSheet, mark: Mark) -> fmt::Result {
 
 impl Describe for MarkSheet {
     /// The marked states, forbidden ones first.
-    fn describe(&self, out: &mut String) -> fmt::Result {
+    fn describe(&self, out: &mut String) -> Result<(), AllocError> {
         writeln!(out, "mark sheet\n")?;
         write_set(out, self, Mark::Forbidden)?;
         write_set(out, self, Mark::Goal)

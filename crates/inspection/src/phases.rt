@@ -1,8 +1,8 @@
 use crate::sheets::Describe;
 use reading::phase_table::PhaseTable;
-use std::fmt;
+use std::alloc::AllocError;
 
-fn write_sizes(out: &mut String, table: &PhaseTable) -> fmt::Result {
+fn write_sizes(out: &mut String, table: &PhaseTable) -> Result<(), AllocError> {
     writeln!(
         out,
         "phase table\n\
@@ -16,7 +16,7 @@ fn write_sizes(out: &mut String, table: &PhaseTable) -> fmt::Result {
     )
 }
 
-fn write_row(out: &mut String, table: &PhaseTable, phase: u8, first: u8) -> fmt::Result {
+fn write_row(out: &mut String, table: &PhaseTable, phase: u8, first: u8) -> Result<(), AllocError> {
     write!(out, "{first:>7} |")?;
     for second in 0..table.signals1() {
         write!(out, "  {}", table.next(phase, first, second))?;
@@ -25,7 +25,7 @@ fn write_row(out: &mut String, table: &PhaseTable, phase: u8, first: u8) -> fmt:
 }
 
 /// One table: a row for each signal of side 0, a column for each of side 1.
-fn write_phase(out: &mut String, table: &PhaseTable, phase: u8) -> fmt::Result {
+fn write_phase(out: &mut String, table: &PhaseTable, phase: u8) -> Result<(), AllocError> {
     write!(out, "\nphase {phase} |")?;
     for second in 0..table.signals1() {
         write!(out, "  {second}")?;
@@ -39,7 +39,7 @@ fn write_phase(out: &mut String, table: &PhaseTable, phase: u8) -> fmt::Result {
 
 impl Describe for PhaseTable {
     /// The sizes, then a table for each phase.
-    fn describe(&self, out: &mut String) -> fmt::Result {
+    fn describe(&self, out: &mut String) -> Result<(), AllocError> {
         write_sizes(out, self)?;
         for phase in 0..self.phases() {
             write_phase(out, self, phase)?;

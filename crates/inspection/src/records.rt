@@ -1,6 +1,6 @@
 use crate::sheets::Describe;
 use reading::records::Record;
-use std::fmt;
+use std::alloc::AllocError;
 
 /// What stands for no choice, and for no rank.
 const NO_CHOICE: u8 = 255;
@@ -8,7 +8,12 @@ const NO_CHOICE: u8 = 255;
 const NO_RANK: u16 = 65535;
 
 /// A position's row: a position with neither choice nor rank is not kept.
-fn write_row(out: &mut String, record: &Record<'_>, state: u16, phase: u8) -> fmt::Result {
+fn write_row(
+    out: &mut String,
+    record: &Record<'_>,
+    state: u16,
+    phase: u8,
+) -> Result<(), AllocError> {
     write!(out, "{state:>5}  {phase:>5}  ")?;
     match (record.choice(state, phase), record.rank(state, phase)) {
         (NO_CHOICE, NO_RANK) => writeln!(out, "not kept"),
@@ -17,7 +22,7 @@ fn write_row(out: &mut String, record: &Record<'_>, state: u16, phase: u8) -> fm
     }
 }
 
-fn write_sizes(out: &mut String, record: &Record<'_>) -> fmt::Result {
+fn write_sizes(out: &mut String, record: &Record<'_>) -> Result<(), AllocError> {
     writeln!(
         out,
         "controller record\n\
@@ -30,7 +35,7 @@ fn write_sizes(out: &mut String, record: &Record<'_>) -> fmt::Result {
 
 impl Describe for Record<'_> {
     /// The sizes, a row for each position, then the bound.
-    fn describe(&self, out: &mut String) -> fmt::Result {
+    fn describe(&self, out: &mut String) -> Result<(), AllocError> {
         write_sizes(out, self)?;
         writeln!(out, "state  phase  choice   rank")?;
         for state in 0..self.states {

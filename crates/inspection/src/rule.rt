@@ -1,9 +1,9 @@
 use crate::sheets::Describe;
 use reading::rule_sheet::RuleSheet;
-use std::fmt;
+use std::alloc::AllocError;
 
 /// The forbidden labels, or `none`.
-fn write_forbidden(out: &mut String, sheet: &RuleSheet) -> fmt::Result {
+fn write_forbidden(out: &mut String, sheet: &RuleSheet) -> Result<(), AllocError> {
     write!(out, "forbidden labels")?;
     let mut some = false;
     for label in 0..8 {
@@ -25,7 +25,7 @@ fn note(sheet: &RuleSheet, state: u8) -> &'static str {
     }
 }
 
-fn write_row(out: &mut String, sheet: &RuleSheet, state: u8) -> fmt::Result {
+fn write_row(out: &mut String, sheet: &RuleSheet, state: u8) -> Result<(), AllocError> {
     write!(out, "{state:>5} |")?;
     for label in 0..8 {
         write!(out, "  {}", sheet.next(state, label))?;
@@ -35,7 +35,7 @@ fn write_row(out: &mut String, sheet: &RuleSheet, state: u8) -> fmt::Result {
 
 impl Describe for RuleSheet {
     /// The automaton as a table: a row for each state, a column for each label.
-    fn describe(&self, out: &mut String) -> fmt::Result {
+    fn describe(&self, out: &mut String) -> Result<(), AllocError> {
         writeln!(out, "rule sheet\nstates            {}", self.states())?;
         write_forbidden(out, self)?;
         writeln!(

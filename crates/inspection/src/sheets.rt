@@ -12,14 +12,13 @@ use reading::phase_table::PhaseTable;
 use reading::records::Record;
 use reading::rule_sheet::RuleSheet;
 use std::alloc::{AllocError, Global};
-use std::fmt;
 
 /// Longer input is refused unread.
 pub const LIMIT: usize = 40_000;
 
 /// A sheet that can be told in words.
 pub trait Describe {
-    fn describe(&self, out: &mut String) -> fmt::Result;
+    fn describe(&self, out: &mut String) -> Result<(), AllocError>;
 }
 
 /// The phase table in the bytes, or their first fault.
@@ -43,11 +42,8 @@ fn report<S: Describe + Drop>(
     match read {
         Ok(sheet) => {
             let mut out = String::new(heap);
-            // A `String` refuses text only for want of memory.
-            match sheet.describe(&mut out) {
-                Ok(()) => Ok(out),
-                Err(_) => Err(AllocError),
-            }
+            sheet.describe(&mut out)?;
+            Ok(out)
         }
         Err(fault) => refusal(heap, kind, bytes, fault),
     }
