@@ -1,11 +1,11 @@
 -- Layers of an attractor better every rival, and stay so under one write.
-use Rattle.std.proofs.Common.{◌≡◌, ℕ, zero, suc, ◌+◌, ◌<◌, ◌≤◌, Bool, true, false, cond, ltb, ◌⊎◌, List, get_or, sym, refl, ap, ◌∙◌, subst, inl, inr, arith}
+use Rattle.std.proofs.Common.{◌≡◌, ℕ, zero, suc, ◌+◌, ◌<◌, ◌≤◌, true, false, List, sym, refl, ◌∙◌, inl, inr, arith}
 use Rattle.std.proofs.lemmas.Bool.{cases_lt, cases_Bool, both_ways, ltb-true, lt-ltb}
 use Rattle.checking.specs.declared.state_set.StateSet.{StateSet}
 use Rattle.checking.specs.declared.ranking.Ranking.{Ranking}
 use Rattle.checking.specs.Arenas.{Arena}
-use Rattle.checking.specs.Controllers.{Plan, Kept, Serves, Rival}
-use Rattle.checking.specs.Solving.{Leads, Lowest, Leading, First, Tracks, bar, Shape, Least, Stable, Open, Full, Grown, Layered, Bounded, Written, ranks_in, choices_in, Fresh}
+use Rattle.checking.specs.Controllers.{Plan, Kept, Rival}
+use Rattle.checking.specs.Solving.{Leads, Lowest, Leading, First, Tracks, Shape, Least, Stable, Open, Full, Layered, Bounded, Written, ranks_in, choices_in, Fresh}
 
 -- a signal leads wherever the ranks below d are ranks below e
 pub leads_on : (a : Arena) (rank new : ℕ → ℕ → ℕ) (s p x d e : ℕ) → ((t q : ℕ) → rank t q < d → new t q < e) → Leads a rank s p x d → Leads a new s p x e

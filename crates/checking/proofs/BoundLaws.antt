@@ -1,12 +1,11 @@
 -- The largest kept rank of a record is the bound of its plan.
-use Rattle.std.proofs.Common.{◌≡◌, ℕ, ◌+◌, ◌*◌, ◌/◌, ◌%◌, ◌<◌, ◌≤◌, Bool, true, false, cond, ◌&&◌, ltb, ◌⊎◌, sym, refl, ap, ◌∙◌, inl, inr, mul_comm, arith}
+use Rattle.std.proofs.Common.{◌≡◌, ℕ, ◌+◌, ◌*◌, ◌/◌, ◌%◌, ◌<◌, ◌≤◌, true, false, ltb, sym, ap, ◌∙◌, inl, inr, mul_comm, arith}
 use Rattle.std.proofs.lemmas.Bool.{cases_Bool, cond-true, cond-false, ltb-true, lt-ltb, and_parts, and_from}
 use Rattle.std.proofs.lemmas.Nat.{mul-add-lt, div_below, mod_below, div-add-mod'}
 use Rattle.reading.specs.Bytes.{byte, pair}
-use Rattle.reading.specs.Firsts.{highest_below}
 use Rattle.reading.specs.Records.{Parts, inside, choice_at, rank_at, kept, kept_rank, bound_of}
 use Rattle.reading.proofs.FirstLaws.{highest_over, highest_at}
-use Rattle.checking.specs.Controllers.{Plan, plan_of, Kept, Bound}
+use Rattle.checking.specs.Controllers.{plan_of, Kept, Bound}
 use Rattle.checking.specs.Checks.{keeps}
 use Rattle.checking.proofs.ControllerLaws.{kept_from, keeps_from}
 

@@ -1,19 +1,18 @@
 -- A check finds no fault exactly if the bytes are a ranked controller.
-use Rattle.std.proofs.Common.{◌≡◌, ℕ, zero, suc, ◌<◌, ◌≤◌, Bool, true, false, ◌&&◌, eqb, leb, List, Some, None, Ok, Err, Decides, Option, sym, refl, ap, ◌∙◌, subst, arith}
+use Rattle.std.proofs.Common.{◌≡◌, ℕ, zero, suc, ◌<◌, ◌≤◌, true, false, List, Some, None, Err, Decides, Option, sym, refl, ap, ◌∙◌, arith}
 use Rattle.std.specs.Option.{option_map}
 use Rattle.std.proofs.lemmas.Bool.{leb-true, le-leb, eqb-true, eq-eqb, and_parts, and_from}
 use Rattle.reading.specs.Faults.{Fault}
-use Rattle.reading.specs.Firsts.{first_some, unless}
 use Rattle.reading.specs.Records.{Parts, parts_in, bound_of, record_fault}
 use Rattle.reading.proofs.FirstLaws.{not_some, not-true, of_none, of_left, of_right, none_left, none_right, unless_none, none_unless}
 use Rattle.reading.proofs.RecordLaws.{lawful_from, lawful_to}
 use Rattle.reading.specs.declared.phase_table.PhaseTable.{PhaseTable}
 use Rattle.games.specs.declared.deal.Deal.{Deal}
 use Rattle.games.specs.Machines.{Model, Marks, Lawful}
-use Rattle.games.specs.Sets.{width, pick, has, described}
+use Rattle.games.specs.Sets.{width, pick}
 use Rattle.games.proofs.SetLaws.{in_words, has_low}
 use Rattle.checking.specs.Arenas.{arena, promised, relied, suits, Suits}
-use Rattle.checking.specs.Controllers.{plan_in, Kept, Controller, Bound}
+use Rattle.checking.specs.Controllers.{plan_in, Bound}
 use Rattle.checking.specs.Faults.{Refusal, unread}
 use Rattle.checking.specs.Checks.{plan_fault, sized, Sized, check_fault, answer, check_answer, Ranked}
 use Rattle.checking.proofs.ControllerLaws.{Fitted, controller_of, of_controller}

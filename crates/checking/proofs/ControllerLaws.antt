@@ -1,7 +1,7 @@
 -- A plan has no fault exactly if it is a ranked controller.
-use Rattle.std.proofs.Common.{◌≡◌, ℕ, ◌<◌, ◌≤◌, Bool, true, false, not, ◌&&◌, ◌||◌, eqb, ltb, ◌⊎◌, Some, None, Option, sym, refl, ap, ◌∙◌, inl, inr, arith}
-use Rattle.std.proofs.lemmas.Bool.{eqb-true, eqb-false, eq-eqb, ne_eqb, ltb-true, lt-ltb, and_parts, and_from, or_cases, or_left, or_right, cases_Bool, not-true, not-false, not_from_true, not_from_false, both_ways}
-use Rattle.reading.specs.Firsts.{first_some, first_below, unless, where_so, some_below}
+use Rattle.std.proofs.Common.{◌≡◌, ℕ, ◌<◌, ◌≤◌, Bool, true, false, ◌&&◌, eqb, None, sym, ◌∙◌, inl, inr, arith}
+use Rattle.std.proofs.lemmas.Bool.{eqb-true, eqb-false, eq-eqb, ne_eqb, ltb-true, lt-ltb, and_parts, and_from, or_cases, or_left, or_right, cases_Bool, not-true, not-false, not_from_false, both_ways}
+use Rattle.reading.specs.Firsts.{first_below, some_below}
 use Rattle.reading.proofs.FirstLaws.{of_none, none_left, none_right, unless_none, none_unless, where_none, none_where, below_none, none_below, some_test, test_some}
 use Rattle.checking.specs.Arenas.{Arena}
 use Rattle.checking.specs.Controllers.{Plan, Kept, Serves, Rival, Controller}

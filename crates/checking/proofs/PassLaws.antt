@@ -1,5 +1,5 @@
 -- What a pass over the positions knows on its way: layer by layer, giving up goals, keeping the targets alone.
-use Rattle.std.proofs.Common.{◌≡◌, ℕ, ◌+◌, ◌*◌, ◌<◌, ◌≤◌, Bool, true, false, cond, ◌&&◌, ◌||◌, eqb, ltb, ◌≢◌, ◌⊎◌, List, [], length, get_or, set, vec_items, sym, refl, ap, ◌∙◌, subst, inl, inr, arith, length-set, get_or-set_other, get_or-set_same}
+use Rattle.std.proofs.Common.{◌≡◌, ℕ, ◌+◌, ◌*◌, ◌<◌, ◌≤◌, Bool, true, false, ◌&&◌, ◌||◌, eqb, ltb, ◌≢◌, List, [], length, get_or, set, vec_items, sym, refl, ap, ◌∙◌, subst, inl, inr, arith, length-set, get_or-set_other, get_or-set_same}
 use mathlib.Core.Path.{fun_ext}
 use Rattle.std.proofs.lemmas.Bool.{cases_lt, cases_eq, lt-ltb, le-ltb, eq-eqb, ne_eqb, false≢true, true≢false}
 use Rattle.checking.specs.declared.state_set.StateSet.{StateSet}
@@ -7,10 +7,10 @@ use Rattle.checking.specs.declared.ranking.Ranking.{Ranking}
 use Rattle.checking.specs.StateSets.{member, nothing}
 use Rattle.checking.specs.Arenas.{Arena}
 use Rattle.checking.specs.Controllers.{Plan, Kept, Rival}
-use Rattle.checking.specs.Solving.{held, Leads, Lowest, Leading, First, Tracks, Least, Stable, Open, Full, Layered, Layers, Bounded, Before, Written, ranks_in, choices_in, zeros, Layering, Joining, Barred, Target, Fresh, Resetting, Pruning, Chosen, Dropped}
+use Rattle.checking.specs.Solving.{held, Lowest, Tracks, Least, Stable, Layers, Bounded, Before, Written, ranks_in, choices_in, zeros, Layering, Joining, Barred, Target, Fresh, Resetting, Pruning, Chosen, Dropped}
 use Rattle.checking.proofs.PlaceLaws.{held_in, held_or, before_none, before_next, before_turn, before_all}
 use Rattle.checking.proofs.SnapshotLaws.{Gathered, gather_skip, gathered_in}
-use Rattle.checking.proofs.AttractorLaws.{into_leads, leads_into, first_lowest, rival_leads, layered_least, full_else, layer_done, layered_stable, written_all, full_join, join, fresh_none, fresh_zero, fresh_layers}
+use Rattle.checking.proofs.AttractorLaws.{leads_into, first_lowest, rival_leads, layered_least, full_else, layer_done, layered_stable, written_all, full_join, join, fresh_none, fresh_zero, fresh_layers}
 
 -- a rank that is not d is below d exactly if it is below d + 1
 ltb_next : (n d : ℕ) → (n ≡ d → ⊥) → ltb n d ≡ ltb n (d + 1)

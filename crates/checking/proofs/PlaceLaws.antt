@@ -1,10 +1,10 @@
 -- What a list holds of each position, and what a write changes.
-use Rattle.std.proofs.Common.{◌≡◌, ℕ, ◌+◌, ◌*◌, ◌<◌, ◌≤◌, cond, eqb, ◌≢◌, ◌⊎◌, List, length, get_or, set, vec_items, vec_len, count_by, sym, refl, ap, ◌∙◌, inl, inr, arith, get_or-set_other, get_or-set_same}
+use Rattle.std.proofs.Common.{◌≡◌, ℕ, ◌+◌, ◌*◌, ◌<◌, ◌≤◌, cond, eqb, ◌⊎◌, List, length, get_or, set, vec_items, count_by, sym, ap, ◌∙◌, inl, inr, arith, get_or-set_other, get_or-set_same}
 use Rattle.std.proofs.lemmas.List.Sums.{sum_by-set}
 use Rattle.std.proofs.lemmas.Bool.{cases_lt, cases_eq, lt-ltb, le-ltb, eq-eqb, ne_eqb}
 use Rattle.checking.specs.declared.ranking.Ranking.{Ranking}
 use Rattle.checking.specs.Arenas.{Arena}
-use Rattle.checking.specs.Solving.{held, Bounded, Before, Written, ranks_in, choices_in, zeros}
+use Rattle.checking.specs.Solving.{held, Bounded, Before, Written, ranks_in, zeros}
 
 pub held_in : (a : Arena) (n : ℕ) (l : List ℕ) (s p : ℕ) → s < a.states → p < a.phases → held a n l s p ≡ get_or l (8 * s + p) 0
 unfolding held

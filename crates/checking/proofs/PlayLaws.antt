@@ -1,6 +1,5 @@
 -- What is known of every arena that is played, and how a signal leads there.
-use Rattle.std.proofs.Common.{◌≡◌, ℕ, zero, suc, ◌+◌, ◌*◌, ◌<◌, ◌≤◌, Bool, true, false, cond, ◌&&◌, ltb, ◌⊎◌, List, get_or, vec_items, sym, refl, ap, ◌∙◌, inl, inr, arith}
-use Rattle.std.proofs.lemmas.Bool.{cases_Bool, cond-true, cond-false}
+use Rattle.std.proofs.Common.{◌≡◌, ℕ, zero, suc, ◌<◌, ◌≤◌, Bool, true, false, cond, ◌&&◌, ltb, List, get_or, vec_items, sym, ◌∙◌, arith}
 use Rattle.reading.specs.PhaseTables.{table_of, next_phase}
 use Rattle.reading.specs.declared.phase_table.PhaseTable.{PhaseTable}
 use Rattle.games.specs.Sets.{width, pick}
@@ -10,7 +9,7 @@ use Rattle.games.specs.declared.deal.Deal.{Deal}
 use Rattle.checking.specs.declared.snapshot.Snapshot.{Snapshot}
 use Rattle.checking.specs.declared.play.Play.{Play}
 use Rattle.checking.specs.StateSets.{member, nothing}
-use Rattle.checking.specs.Arenas.{Arena, follow}
+use Rattle.checking.specs.Arenas.{follow}
 use Rattle.checking.specs.Snapshots.{row_of, snap_arena, played}
 use Rattle.checking.specs.Solving.{Bounded, Answered}
 use Rattle.checking.proofs.SnapshotLaws.{move_row}

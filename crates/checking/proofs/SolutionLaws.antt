@@ -1,13 +1,13 @@
 -- Stable ranks are the solved plan; the bytes that hold them are the one solved record.
-use Rattle.std.proofs.Common.{◌≡◌, ℕ, zero, suc, ◌+◌, ◌*◌, ◌/◌, ◌%◌, ◌<◌, ◌≤◌, Bool, true, false, cond, ◌&&◌, ◌||◌, ◌⊎◌, List, sym, refl, ap, ◌∙◌, subst, inl, inr, arith}
+use Rattle.std.proofs.Common.{◌≡◌, ℕ, ◌<◌, ◌≤◌, Bool, ap, ◌∙◌, inl, inr, arith}
 use mathlib.Core.Path.{fun_ext}
-use Rattle.std.proofs.lemmas.Bool.{cases_lt, cases_eq, cases_Bool, both_ways}
+use Rattle.std.proofs.lemmas.Bool.{cases_lt, cases_Bool}
 use Rattle.reading.specs.declared.phase_table.PhaseTable.{PhaseTable}
 use Rattle.games.specs.declared.deal.Deal.{Deal}
 use Rattle.games.specs.Machines.{Model, Marks, forbidden_in, goal_in}
 use Rattle.checking.specs.declared.snapshot.Snapshot.{Snapshot}
 use Rattle.checking.specs.Arenas.{Arena, arena, promised, relied, follow}
-use Rattle.checking.specs.Controllers.{Plan, Kept, Serves, Rival, Controller}
+use Rattle.checking.specs.Controllers.{Plan, Kept, Serves, Controller}
 use Rattle.checking.specs.Snapshots.{snap_forbidden, snap_goal, snap_arena, Taken}
 use Rattle.checking.specs.Solutions.{Solved}
 use Rattle.checking.specs.Solving.{Leads, bar, Stable}

@@ -1,9 +1,9 @@
 -- From a settled ranking and its written record to the answer of solving.
-use Rattle.std.proofs.Common.{◌≡◌, ℕ, zero, suc, ◌+◌, ◌*◌, ◌/◌, ◌%◌, ◌<◌, ◌≤◌, Bool, true, false, cond, ◌&&◌, eqb, ltb, ◌⊎◌, List, length, get_or, take, drop, Some, None, Ok, sym, refl, ap, ◌∙◌, subst, inl, inr, mul_comm, arith}
+use Rattle.std.proofs.Common.{◌≡◌, ℕ, zero, suc, ◌+◌, ◌*◌, ◌/◌, ◌%◌, ◌<◌, ◌≤◌, true, false, ◌&&◌, ltb, ◌⊎◌, List, length, drop, None, Ok, sym, ap, ◌∙◌, subst, inl, inr, arith}
 use mathlib.Core.Path.{fun_ext}
 use Rattle.std.proofs.lemmas.List.{get_or-take, get_or-drop}
-use Rattle.std.proofs.lemmas.Bool.{cases_lt, cases_eq, lt-ltb, le-ltb, eq-eqb, cond-true, cond-false}
-use Rattle.std.proofs.lemmas.Nat.{mul-le, div_below, mod_below, div-add-mod'}
+use Rattle.std.proofs.lemmas.Bool.{cases_lt, lt-ltb, le-ltb, eq-eqb, cond-false}
+use Rattle.std.proofs.lemmas.Nat.{div_below, mod_below, div-add-mod'}
 use Rattle.reading.specs.Bytes.{byte, pair}
 use Rattle.reading.specs.Records.{parts_in, size_in, inside, choice_at, rank_at, bound_of, Lawful}
 use Rattle.reading.proofs.FirstLaws.{of_none, unless_none}
@@ -14,13 +14,13 @@ use Rattle.games.proofs.SetLaws.{in_words}
 use Rattle.games.specs.Machines.{Model, Marks}
 use Rattle.games.specs.Machines.{Lawful as LawfulMachine}
 use Rattle.checking.specs.declared.ranking.Ranking.{Ranking}
-use Rattle.checking.specs.Arenas.{Arena, arena, promised, Suits, suits}
-use Rattle.checking.specs.Controllers.{Plan, plan_in, Kept, Controller}
-use Rattle.checking.specs.Checks.{Sized, Ranked, check_answer, answer}
+use Rattle.checking.specs.Arenas.{Arena, arena, promised, Suits}
+use Rattle.checking.specs.Controllers.{Plan, plan_in, Kept}
+use Rattle.checking.specs.Checks.{Sized, Ranked, answer}
 use Rattle.checking.specs.Solutions.{Solved, Solution, record_size, solve_head, Found}
 use Rattle.checking.specs.Solving.{Stable, Bounded, held, ranks_in, choices_in, Wrote}
 use Rattle.checking.proofs.CheckLaws.{suits_to, ranked_to}
-use Rattle.checking.proofs.PlaceLaws.{held_in, held_or}
+use Rattle.checking.proofs.PlaceLaws.{held_or}
 use Rattle.checking.proofs.SolutionLaws.{solved, starts, none_controls}
 use Rattle.checking.proofs.UniqueLaws.{same_entries, choice_byte, rank_pair, same_bytes}
 

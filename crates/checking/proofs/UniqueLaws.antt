@@ -1,14 +1,13 @@
 -- There is one solved plan, and one record that holds it.
-use Rattle.std.proofs.Common.{◌≡◌, ℕ, zero, suc, ◌+◌, ◌-◌, ◌*◌, ◌/◌, ◌%◌, ◌<◌, ◌≤◌, Bool, true, false, cond, ◌&&◌, ltb, ◌⊎◌, List, length, get_or, take, drop, sym, refl, ap, ◌∙◌, subst, inl, inr, mul_comm, arith}
-use mathlib.Core.Path.{fun_ext}
+use Rattle.std.proofs.Common.{◌≡◌, ℕ, zero, suc, ◌+◌, ◌-◌, ◌*◌, ◌/◌, ◌%◌, ◌<◌, ◌≤◌, true, ◌⊎◌, List, length, drop, sym, ap, ◌∙◌, inl, inr, mul_comm, arith}
 use Rattle.std.proofs.lemmas.List.{get_or-take, get_or-drop, ext_get_or}
-use Rattle.std.proofs.lemmas.Bool.{cases_lt, cases_eq, lt-ltb, le-ltb, and_from, cond-true, cond-false}
+use Rattle.std.proofs.lemmas.Bool.{cases_lt, cases_eq, lt-ltb, and_from, cond-true}
 use Rattle.std.proofs.lemmas.Nat.{mul-add-lt, div_below, mod_below, div-add-mod'}
 use Rattle.reading.specs.Bytes.{byte, pair}
 use Rattle.reading.specs.Limits.{AllBelow}
-use Rattle.reading.specs.Records.{Parts, parts_in, size_in, inside, choice_at, rank_at, Lawful}
+use Rattle.reading.specs.Records.{parts_in, size_in, inside, choice_at, rank_at}
 use Rattle.checking.specs.Arenas.{Arena}
-use Rattle.checking.specs.Controllers.{Plan, plan_in, Kept, Serves, Rival}
+use Rattle.checking.specs.Controllers.{Plan, Kept, Serves}
 use Rattle.checking.specs.Solutions.{Solved}
 
 -- two solved plans agree

@@ -1,14 +1,13 @@
 -- What a lawful machine sheet gives to a machine.
-use Rattle.std.proofs.Common.{◌≡◌, ℕ, ◌+◌, ◌*◌, ◌<◌, ◌≤◌, Bool, true, false, cond, ◌&&◌, ltb, List, map, length, get_or, take, drop, sym, refl, ap, ◌∙◌, subst, inl, inr, arith, length-drop, length-take}
+use Rattle.std.proofs.Common.{◌≡◌, ℕ, List, map, length, take, drop, sym, ap, ◌∙◌, subst, inl, inr, arith, length-drop, length-take}
 use Rattle.std.proofs.lemmas.List.{get_or_past}
-use Rattle.std.proofs.lemmas.Bool.{cases_lt, and_parts, ltb-true, le-ltb, cond_both, cond-false}
-use Rattle.reading.specs.Bytes.{byte, pair}
+use Rattle.std.proofs.lemmas.Bool.{cases_lt}
+use Rattle.reading.specs.Bytes.{pair}
 use Rattle.reading.specs.Limits.{AllBelow}
-use Rattle.reading.specs.MachineSheets.{Sheet, sheet_in, Ranged, Listed, Lawful}
-use Rattle.games.specs.Machines.{in_range}
+use Rattle.reading.specs.MachineSheets.{Sheet, sheet_in, Ranged, Lawful}
 use Rattle.std.specs.List.{range_with_len}
 use Rattle.reading.specs.declared.machine_sheet.Move.{Move}
-use Rattle.games.specs.Listings.{Listing, listing_of, move_at, listed, listed_model, sheet_model}
+use Rattle.games.specs.Listings.{Listing, listing_of, move_at, listed_model, sheet_model}
 
 pub record Loadable (s : Sheet) : Type 0 where
   pub ranged : Ranged s.states s.own s.partner s.start s.moves

@@ -1,5 +1,5 @@
 -- Machines over any machine: marked, and watched by an automaton.
-use Rattle.std.specs.Prelude.{◌≡◌, ℕ, ◌+◌, ◌*◌, ◌/◌, ◌%◌, Bool, cond, ◌&&◌, ◌==◌, nat_le}
+use Rattle.std.specs.Prelude.{◌+◌, ◌*◌, ◌/◌, ◌%◌, cond, ◌&&◌, ◌==◌, nat_le}
 use Rattle.reading.specs.Marks.{marked}
 use Rattle.reading.specs.MarkSheets.{Sets}
 use Rattle.reading.specs.RuleSheets.{Automaton, next_state, accepts, forbids, blank}

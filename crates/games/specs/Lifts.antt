@@ -1,5 +1,5 @@
 -- The lift: floors, a load, and how it moves.
-use Rattle.std.specs.Prelude.{◌≡◌, ℕ, ◌+◌, ◌-◌, ◌*◌, ◌/◌, ◌%◌, ◌<◌, ◌≤◌, Bool, true, false, cond, not, ◌&&◌, ◌||◌, ◌⊎◌, Decides, Option, ◌==◌, nat_le, nat_lt}
+use Rattle.std.specs.Prelude.{◌≡◌, ℕ, ◌+◌, ◌-◌, ◌*◌, ◌/◌, ◌%◌, ◌<◌, ◌≤◌, Bool, cond, not, ◌&&◌, ◌||◌, ◌⊎◌, Decides, Option, ◌==◌, nat_le, nat_lt}
 use Rattle.reading.specs.Firsts.{first_some, unless}
 use Rattle.reading.specs.Bytes.{within}
 use Rattle.reading.specs.Faults.{Fault, fault}

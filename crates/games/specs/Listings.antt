@@ -1,5 +1,5 @@
 -- A machine by its list of moves, as a machine sheet has them.
-use Rattle.std.specs.Prelude.{◌≡◌, ℕ, ◌+◌, ◌*◌, Bool, true, false, cond, ◌&&◌, ◌||◌, List, [], ◌∷◌, map, ◌==◌, nat_lt}
+use Rattle.std.specs.Prelude.{ℕ, ◌+◌, ◌*◌, Bool, false, cond, ◌&&◌, ◌||◌, List, [], ◌∷◌, map, ◌==◌, nat_lt}
 use Rattle.std.specs.List.{range_with_len}
 use Rattle.reading.specs.declared.machine_sheet.Move.{Move}
 use Rattle.reading.specs.Bytes.{byte}

@@ -1,13 +1,13 @@
 -- The product of a lawful machine with an automaton.
-use Rattle.std.specs.Prelude.{◌≡◌, ℕ, zero, suc, ◌+◌, ◌*◌, ◌/◌, ◌%◌, ◌<◌, ◌≤◌, Bool, true, false, cond, ◌&&◌, ◌⊎◌, List, [], ◌∷◌, replicate, ◌==◌, nat_le, nat_lt, refl}
-use Rattle.std.proofs.Common.{sym, ◌∙◌, ap, subst, inl, inr, mul_comm, arith}
+use Rattle.std.specs.Prelude.{◌≡◌, ℕ, ◌+◌, ◌*◌, ◌/◌, ◌%◌, ◌<◌, ◌≤◌, Bool, true, false, cond, ◌&&◌, List, [], ◌∷◌, ◌==◌, nat_le, nat_lt, refl}
+use Rattle.std.proofs.Common.{◌∙◌, ap, subst, mul_comm, arith}
 use Rattle.std.proofs.lemmas.Nat.{mul-le, mul-add-lt, div-mul-add, mod-mul-add, div-add-mod', le-div, mod_below}
-use Rattle.std.proofs.lemmas.Bool.{and_parts, and_from, eqb-true, eq-eqb, cases_Bool, cond-true, cond-false, cond_both, leb-true, le-leb}
+use Rattle.std.proofs.lemmas.Bool.{and_parts, and_from, eqb-true, eq-eqb, cond-true, cond_both, leb-true, le-leb}
 use Rattle.reading.specs.Limits.{AllBelow}
 use Rattle.reading.specs.RuleSheets.{Automaton, next_state, blank}
 use Rattle.reading.proofs.Padding.{zeros_below}
 use Rattle.games.specs.Machines.{Model, Lawful}
-use Rattle.games.specs.Layers.{product, fitting, watched}
+use Rattle.games.specs.Layers.{product, watched}
 use Rattle.games.specs.Runs.{Tick, Run, read_on, paired, Paired}
 
 -- what every rule sheet's automaton has

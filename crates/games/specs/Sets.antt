@@ -1,5 +1,5 @@
 -- Sets of signals by phase, each held in one number: signal j of phase p is bit w × p + j, where w is the width of a phase.
-use Rattle.std.specs.Prelude.{◌≡◌, ℕ, zero, suc, ◌+◌, ◌*◌, ◌/◌, ◌%◌, ◌^◌, ◌<◌, Bool, true, false, not, ◌&&◌, ◌==◌, bit_and, nat_lt}
+use Rattle.std.specs.Prelude.{◌≡◌, ℕ, zero, suc, ◌+◌, ◌*◌, ◌/◌, ◌%◌, ◌^◌, ◌<◌, Bool, true, not, ◌&&◌, ◌==◌, bit_and, nat_lt}
 use Rattle.reading.specs.Bytes.{bit}
 use Rattle.reading.specs.Marks.{implies}
 

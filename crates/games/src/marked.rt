@@ -2,7 +2,6 @@ ghost use Rattle.std.specs.Prelude.{◌≡◌, MatchResult};
 ghost use Rattle.reading.specs.Faults.{told};
 ghost use Rattle.reading.specs.MarkSheets.{sets_in, sets_of, unmarked, mark_fault};
 ghost use Rattle.games.specs.Layers.{marks_of};
-ghost use Rattle.std.proofs.Common.{rules};
 
 use crate::machine::{Game, Machine};
 use reading::faults::ReadFault;
@@ -43,7 +42,7 @@ impl<M: Machine + Drop> Marked<M> {
 impl<M: Machine + Drop> Machine for Marked<M> {
     ghost meaning = { λ x. M.Machine.meaning x.below };
 
-    ghost lawful = { Prim.search rules };
+    ghost lawful = { λ x. M.Machine.lawful x.below };
 
     fn states(&self) -> u16 {
         self.below.states()

@@ -1,9 +1,9 @@
 -- Bits of a number.
-use Rattle.std.proofs.Common.{◌≡◌, ℕ, zero, suc, ◌+◌, ◌*◌, ◌/◌, ◌%◌, ◌^◌, ◌<◌, ◌≤◌, Bool, true, false, not, ◌&&◌, eqb, ltb, leb, ◌⊎◌, sym, refl, ap, ◌∙◌, inl, inr, one-mul, arith, pow_mono}
+use Rattle.std.proofs.Common.{◌≡◌, ℕ, zero, suc, ◌/◌, ◌%◌, ◌^◌, ◌<◌, ◌≤◌, true, false, ◌&&◌, eqb, ltb, sym, refl, ap, ◌∙◌, inl, inr, one-mul, arith, pow_mono}
 use native.Mathlib.Nat.{div-eq_of_lt, pow-succ'}
 use lib.Bits.{bit_and}
-use Rattle.std.proofs.lemmas.Bool.{eqb-true, eq-eqb, ne_eqb, lt-ltb, le-ltb, cases_lt, ltb-true, ltb-false}
-use Rattle.std.proofs.lemmas.Nat.{pow_pos, leading_top, div_below, le-div, mod_below, shr_split, and_shr, and_mod}
+use Rattle.std.proofs.lemmas.Bool.{eqb-true, eq-eqb, ne_eqb, lt-ltb, le-ltb, cases_lt}
+use Rattle.std.proofs.lemmas.Nat.{pow_pos, leading_top, div_below, le-div, mod_below, and_shr, and_mod}
 use Rattle.reading.specs.Bytes.{bit}
 
 pub shift_none : (x r : ℕ) → x < 2 ^ r → x / 2 ^ r ≡ 0

@@ -1,5 +1,5 @@
 -- Examples that the definitions compute.
-use Rattle.std.proofs.Common.{◌≡◌, ℕ, true, false, List, [], ◌∷◌, ◌++◌, set, replicate, Some, None, refl}
+use Rattle.std.proofs.Common.{◌≡◌, ℕ, true, List, [], ◌∷◌, ◌++◌, set, replicate, Some, None, refl}
 use Rattle.reading.specs.Faults.{fault}
 use Rattle.reading.specs.MachineSheets.{sheet_in, key_at, target_at, machine_fault}
 use Rattle.reading.specs.Marks.{marked}

@@ -1,11 +1,11 @@
 -- Machine sheets: from the order of faults to the lawful sheet, and back.
-use Rattle.std.proofs.Common.{◌≡◌, ℕ, zero, suc, ◌+◌, ◌-◌, ◌*◌, ◌<◌, ◌≤◌, Bool, true, false, ◌||◌, eqb, ltb, leb, ◌⊎◌, List, length, take, drop, Some, None, Option, sym, refl, ap, ◌∙◌, subst, inl, inr, arith, length-drop, length-take}
-use Rattle.std.proofs.lemmas.Bool.{cases_eq, cases_lt, ltb-true, leb-true, eqb-true, lt-ltb, le-leb, eq-eqb, or_cases, or_left, or_right, and_parts, and_from}
-use Rattle.reading.specs.Firsts.{first_some, first_below, unless}
-use Rattle.reading.specs.Bytes.{byte, pair, within}
+use Rattle.std.proofs.Common.{◌≡◌, ℕ, zero, suc, ◌+◌, ◌-◌, ◌*◌, ◌<◌, ◌≤◌, true, ◌||◌, eqb, ltb, leb, List, length, take, drop, None, Option, sym, refl, ap, ◌∙◌, subst, inl, inr, arith, length-drop, length-take}
+use Rattle.std.proofs.lemmas.Bool.{cases_eq, ltb-true, leb-true, eqb-true, lt-ltb, le-leb, eq-eqb, or_cases, or_left, or_right, and_parts, and_from}
+use Rattle.reading.specs.Firsts.{unless}
+use Rattle.reading.specs.Bytes.{byte, pair}
 use Rattle.reading.specs.Faults.{Fault, fault, length_place}
-use Rattle.reading.specs.MachineSheets.{key_place, target_place, Sheet, sheet_in, field_fault, head_fault, Shaped, Headed, Ranged, Listed, Lawful, Before, before, key_at, target_at, move_fault, body_fault, machine_fault}
-use Rattle.reading.proofs.FirstLaws.{none_left, none_right, of_none, of_left, of_right, none_unless, unless_none, none_below, below_none, not-true}
+use Rattle.reading.specs.MachineSheets.{key_place, target_place, Sheet, sheet_in, field_fault, head_fault, Headed, Ranged, Listed, Lawful, Before, before, key_at, target_at, move_fault, body_fault, machine_fault}
+use Rattle.reading.proofs.FirstLaws.{none_left, none_right, of_none, of_right, none_unless, unless_none, none_below, below_none}
 use Rattle.reading.proofs.EntryLaws.{entries_below, below_entries}
 use Rattle.reading.proofs.Ranges.{from_within, to_within}
 

@@ -1,15 +1,15 @@
 -- Mark sheets: from the order of faults to the lawful sheet, and back.
-use Rattle.std.proofs.Common.{◌≡◌, ℕ, ◌+◌, ◌-◌, ◌*◌, ◌/◌, ◌%◌, ◌^◌, ◌<◌, ◌≤◌, Bool, true, false, ◌&&◌, eqb, ltb, leb, ◌⊎◌, List, ◌++◌, length, get_or, take, drop, replicate, Some, None, Option, sym, refl, ap, ◌∙◌, subst, inl, inr, mod-eq_of_lt, arith, length-drop, length-take}
+use Rattle.std.proofs.Common.{◌≡◌, ℕ, ◌+◌, ◌-◌, ◌*◌, ◌/◌, ◌%◌, ◌^◌, ◌<◌, ◌≤◌, Bool, true, false, ◌&&◌, ltb, List, ◌++◌, length, take, drop, replicate, Some, None, Option, sym, refl, ap, ◌∙◌, subst, inl, inr, mod-eq_of_lt, arith, length-drop, length-take}
 use lib.Bits.{bit_and}
 use Rattle.std.proofs.lemmas.List.{get_or-take, get_or-drop, get_or_past}
-use Rattle.std.proofs.lemmas.Nat.{div_below, mod_below, div-mul-add, mod-mul-add, div-add-mod', and_le_l}
-use Rattle.std.proofs.lemmas.Bool.{ltb-true, eqb-true, lt-ltb, eq-eqb, cases_lt, cases_Bool, and_parts, and_from}
-use Rattle.reading.specs.Firsts.{first_some, first_below, unless}
+use Rattle.std.proofs.lemmas.Nat.{div-mul-add, mod-mul-add, div-add-mod', and_le_l}
+use Rattle.std.proofs.lemmas.Bool.{ltb-true, eqb-true, lt-ltb, eq-eqb, cases_lt, and_parts, and_from}
+use Rattle.reading.specs.Firsts.{first_below}
 use Rattle.reading.specs.Bytes.{byte, bit}
-use Rattle.reading.specs.Faults.{Fault, fault, length_place}
+use Rattle.reading.specs.Faults.{Fault}
 use Rattle.reading.specs.Marks.{marked, implies}
 use Rattle.reading.specs.MarkSheets.{stray_fault, clash_fault, mark_fault, Lawful}
-use Rattle.reading.proofs.FirstLaws.{none_left, none_right, of_none, of_left, of_right, none_unless, unless_none, none_below, below_none, not-true}
+use Rattle.reading.proofs.FirstLaws.{of_none, of_left, of_right, none_unless, unless_none, none_below, below_none, not-true}
 use Rattle.reading.proofs.Padding.{front_of_zeros, padded_whole, zeros_are}
 use Rattle.reading.proofs.Bits.{bit_below, bits_below, bit_of_and, no_bit, no_bits}
 

@@ -1,12 +1,12 @@
 -- Phase tables: from the order of faults to the lawful table, and back.
-use Rattle.std.proofs.Common.{◌≡◌, ℕ, ◌+◌, ◌-◌, ◌*◌, ◌<◌, ◌≤◌, eqb, ltb, leb, List, ◌++◌, length, get_or, drop, replicate, Some, None, Option, sym, refl, ap, ◌∙◌, arith, length-drop}
+use Rattle.std.proofs.Common.{◌≡◌, ℕ, ◌+◌, ◌*◌, ◌≤◌, leb, List, length, drop, None, Option, sym, ap, ◌∙◌, arith, length-drop}
 use Rattle.std.proofs.lemmas.Nat.{mul-le}
-use Rattle.std.proofs.lemmas.Bool.{ltb-true, leb-true, eqb-true, lt-ltb, le-leb, eq-eqb}
-use Rattle.reading.specs.Firsts.{first_some, first_below, unless}
+use Rattle.std.proofs.lemmas.Bool.{leb-true, eqb-true, le-leb, eq-eqb}
+use Rattle.reading.specs.Firsts.{first_below, unless}
 use Rattle.reading.specs.Bytes.{byte, padded}
 use Rattle.reading.specs.Faults.{Fault, fault, length_place, entry_fault}
 use Rattle.reading.specs.PhaseTables.{Table, table_in, size_in, field_fault, head_fault, phase_fault, Lawful}
-use Rattle.reading.proofs.FirstLaws.{none_left, none_right, of_none, of_right, none_unless, unless_none, none_below, below_none}
+use Rattle.reading.proofs.FirstLaws.{none_left, none_right, of_none, of_right, none_unless, unless_none}
 use Rattle.reading.proofs.EntryLaws.{entries_below, below_entries}
 use Rattle.reading.proofs.Ranges.{from_within, to_within}
 

@@ -1,8 +1,8 @@
 -- Controller records: from the order of faults to the lawful record, and back.
-use Rattle.std.proofs.Common.{◌≡◌, ℕ, ◌+◌, ◌*◌, ◌<◌, ◌≤◌, eqb, ltb, leb, ◌⊎◌, List, length, take, drop, Some, None, Option, sym, refl, ap, ◌∙◌, inl, inr, arith, length-drop, length-take}
+use Rattle.std.proofs.Common.{◌≡◌, ℕ, ◌+◌, ◌*◌, ◌≤◌, leb, List, length, take, drop, None, Option, sym, ap, ◌∙◌, inl, inr, arith, length-drop, length-take}
 use Rattle.std.proofs.lemmas.Nat.{mul-le}
 use Rattle.std.proofs.lemmas.Bool.{ltb-true, leb-true, eqb-true, lt-ltb, le-leb, eq-eqb, or_cases, or_left, or_right}
-use Rattle.reading.specs.Firsts.{first_some, first_below, unless}
+use Rattle.reading.specs.Firsts.{first_below, unless}
 use Rattle.reading.specs.Bytes.{byte, pair}
 use Rattle.reading.specs.Faults.{Fault, fault, length_place}
 use Rattle.reading.specs.Records.{Parts, parts_in, size_in, field_fault, choice_fault, head_fault, record_fault, Lawful}

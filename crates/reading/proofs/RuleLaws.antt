@@ -1,11 +1,11 @@
 -- Rule sheets: from the order of faults to the lawful sheet, and back.
-use Rattle.std.proofs.Common.{◌≡◌, ℕ, ◌+◌, ◌-◌, ◌*◌, ◌^◌, ◌<◌, ◌≤◌, true, eqb, ltb, leb, List, length, get_or, drop, Some, None, Option, sym, refl, ap, ◌∙◌, arith, length-drop}
+use Rattle.std.proofs.Common.{◌≡◌, ℕ, ◌+◌, ◌*◌, ◌^◌, ◌<◌, ◌≤◌, leb, List, length, drop, Some, None, Option, sym, ap, ◌∙◌, arith, length-drop}
 use Rattle.std.proofs.lemmas.Bool.{ltb-true, leb-true, eqb-true, lt-ltb, le-leb, eq-eqb}
 use Rattle.reading.specs.Firsts.{first_some, first_below, unless}
-use Rattle.reading.specs.Bytes.{byte, bit, padded}
+use Rattle.reading.specs.Bytes.{byte, padded}
 use Rattle.reading.specs.Faults.{Fault, fault, length_place, entry_fault}
 use Rattle.reading.specs.RuleSheets.{Automaton, automaton_in, field_fault, head_fault, rule_fault, Lawful}
-use Rattle.reading.proofs.FirstLaws.{none_left, none_right, of_none, of_left, of_right, none_unless, unless_none, none_below, below_none}
+use Rattle.reading.proofs.FirstLaws.{none_left, none_right, of_none, of_left, of_right, none_unless, unless_none}
 use Rattle.reading.proofs.EntryLaws.{entries_below, below_entries}
 use Rattle.reading.proofs.Ranges.{from_within, to_within}
 use Rattle.reading.proofs.Bits.{bit_below, bits_below}

@@ -1,5 +1,5 @@
 -- Phase tables: P, k0, k1, then P × k0 × k1 entries.
-use Rattle.std.specs.Prelude.{◌≡◌, ℕ, ◌+◌, ◌-◌, ◌*◌, ◌<◌, ◌≤◌, Bool, cond, ◌&&◌, List, ◌++◌, length, drop, replicate, Option, ◌==◌, nat_le, nat_lt}
+use Rattle.std.specs.Prelude.{◌≡◌, ℕ, ◌+◌, ◌*◌, ◌<◌, ◌≤◌, cond, ◌&&◌, List, length, drop, replicate, Option, ◌==◌, nat_le, nat_lt}
 use Rattle.reading.specs.declared.phase_table.PhaseTable.{PhaseTable}
 use Rattle.reading.specs.Firsts.{first_some, first_below, unless}
 use Rattle.reading.specs.Bytes.{byte, within, padded}

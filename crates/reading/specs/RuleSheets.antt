@@ -1,5 +1,5 @@
 -- Rule sheets for n states: Q, a byte of accepting states, a byte of forbidden labels, the start, then Q rows of 8 next states.
-use Rattle.std.specs.Prelude.{◌≡◌, ℕ, ◌+◌, ◌-◌, ◌*◌, ◌^◌, ◌<◌, ◌≤◌, Bool, true, cond, ◌&&◌, List, ◌++◌, length, drop, replicate, Option, ◌==◌, nat_le, nat_lt}
+use Rattle.std.specs.Prelude.{◌≡◌, ℕ, ◌+◌, ◌*◌, ◌^◌, ◌<◌, ◌≤◌, Bool, true, cond, ◌&&◌, List, length, drop, replicate, Option, ◌==◌, nat_le, nat_lt}
 use Rattle.reading.specs.declared.rule_sheet.RuleSheet.{RuleSheet}
 use Rattle.reading.specs.Firsts.{first_some, first_below, unless}
 use Rattle.reading.specs.Bytes.{byte, bit, within, padded}

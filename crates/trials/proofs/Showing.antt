@@ -1,8 +1,8 @@
 -- The shown examples, computed.
-use Rattle.std.proofs.Common.{◌≡◌, ℕ, zero, suc, ◌/◌, ◌≤◌, true, false, ltb, sym, refl, ◌∙◌, arith}
+use Rattle.std.proofs.Common.{◌≡◌, ℕ, zero, suc, ◌/◌, ◌≤◌, true, false, ltb, sym, refl, arith}
 use Rattle.std.proofs.lemmas.Bool.{true≢false, le-ltb}
 use Rattle.std.proofs.lemmas.Nat.{le-div}
-use Rattle.trials.specs.Toggles.{watched_toggle, toggle_marks}
+use Rattle.trials.specs.Toggles.{watched_toggle}
 use Rattle.trials.specs.Shown.{WatchedToggle, Signing}
 
 -- a state from 4 up is none

@@ -1,7 +1,7 @@
 ghost use Rattle.std.specs.Prelude.{◌≡◌};
 ghost use Rattle.games.specs.Listings.{listed};
 ghost use Rattle.games.specs.SheetMachines.{machine_of};
-ghost use Rattle.std.proofs.Common.{rules, arith};
+ghost use Rattle.std.proofs.Common.{rules};
 
 use crate::machine::Machine;
 use crate::sheet_machine::SheetMachine;
@@ -22,7 +22,7 @@ fn lists(moves: &[Move], key: u16, target: u16) -> bool
 impl Machine for SheetMachine {
     ghost meaning = { machine_of };
 
-    ghost lawful = { first_of (Prim.search rules, Prim.grind (arith, Self.row.coded.inj)) };
+    ghost lawful = { Prim.search rules };
 
     fn states(&self) -> u16 {
         self.states

@@ -1,10 +1,10 @@
 use Rattle.std.proofs.Common.{◌≡◌, ◌≤◌, true, Some, None, Ok, sym, refl, ap, ◌∙◌, subst, arith}
 use Rattle.std.proofs.lemmas.Result.{err_from_is_err_and}
-use Rattle.reading.specs.Records.{Parts, parts_of, parts_in, bound_of}
+use Rattle.reading.specs.Records.{Parts, parts_in, bound_of}
 use Rattle.checking.specs.Arenas.{arena}
 use Rattle.checking.specs.Controllers.{plan_of, plan_in, Bound}
-use Rattle.checking.specs.Faults.{numbers, told_some}
-use Rattle.checking.specs.Checks.{sized, plan_fault, check_fault, answer}
+use Rattle.checking.specs.Faults.{numbers}
+use Rattle.checking.specs.Checks.{sized, plan_fault, answer}
 use Rattle.checking.proofs.CheckLaws.{refuses, tells, unreadable, plan_next, ranked_from, bounded}
 use Rattle.checking.proofs.check.check.Goals as goal
 

@@ -1,4 +1,4 @@
-use Rattle.std.proofs.Common.{◌≡◌, ℕ, ◌+◌, ◌*◌, ◌<◌, ◌≤◌, List, length, get_or, vec_items, sym, refl, ap, ◌∙◌, subst, inl, inr, arith}
+use Rattle.std.proofs.Common.{◌≡◌, ℕ, ◌+◌, ◌*◌, ◌<◌, List, length, get_or, vec_items, sym, refl, ap, ◌∙◌, subst, inr, arith}
 use Rattle.std.proofs.lemmas.Bool.{false≢true}
 use Rattle.reading.specs.Records.{bound_of}
 use Rattle.reading.specs.declared.phase_table.PhaseTable.{PhaseTable}
@@ -8,7 +8,6 @@ use Rattle.checking.specs.declared.snapshot.Snapshot.{Snapshot}
 use Rattle.checking.specs.declared.ranking.Ranking.{Ranking}
 use Rattle.checking.specs.Arenas.{Arena, arena}
 use Rattle.checking.specs.Snapshots.{Taken, snap_arena}
-use Rattle.checking.specs.Solutions.{record_size}
 use Rattle.checking.specs.Solving.{Bounded, Stable, Wrote, ranks_in, choices_in}
 use Rattle.checking.proofs.PlayLaws.{snap_bounded}
 use Rattle.checking.proofs.PlaceLaws.{rank_here}

@@ -1,4 +1,4 @@
-use Rattle.std.proofs.Common.{length, sym, arith}
+use Rattle.std.proofs.Common.{length, sym}
 use Rattle.std.proofs.lemmas.Bool.{lt-ltb, le-ltb}
 use Rattle.reading.proofs.FirstLaws.{below_some, none_more, unless_none, unless_some, none_end}
 use Rattle.reading.proofs.entries.entry_fault.Goals as goal

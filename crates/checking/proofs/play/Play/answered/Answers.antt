@@ -1,4 +1,4 @@
-use Rattle.std.proofs.Common.{◌≡◌, refl, arith}
+use Rattle.std.proofs.Common.{refl, arith}
 use Rattle.checking.proofs.PlayLaws.{follow_low, answered_from, answered_to}
 use Rattle.checking.proofs.play.Play.answered.Goals as goal
 

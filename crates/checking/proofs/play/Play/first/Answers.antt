@@ -1,4 +1,4 @@
-use Rattle.std.proofs.Common.{◌≡◌, refl, inl, inr, arith, below_more}
+use Rattle.std.proofs.Common.{refl, inl, inr, arith, below_more}
 use Rattle.std.proofs.lemmas.Bool.{false≢true, cases_lt}
 use Rattle.checking.proofs.PlayLaws.{bounded}
 use Rattle.checking.proofs.play.Play.first.Goals as goal

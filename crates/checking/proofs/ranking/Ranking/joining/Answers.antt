@@ -1,4 +1,4 @@
-use Rattle.std.proofs.Common.{◌≡◌, ℕ, Some, None, Option, sym, refl, ◌∙◌, arith, MatchOption}
+use Rattle.std.proofs.Common.{◌≡◌, ℕ, Some, None, Option, sym, ◌∙◌, MatchOption}
 use Rattle.checking.specs.Snapshots.{played}
 use Rattle.checking.specs.Arenas.{Arena}
 use Rattle.checking.specs.declared.ranking.Ranking.{Ranking}

@@ -1,4 +1,4 @@
-use Rattle.std.proofs.Common.{◌≡◌, ◌<◌, sym, refl, ap, ◌∙◌, arith}
+use Rattle.std.proofs.Common.{◌<◌, sym, ◌∙◌, arith}
 use Rattle.checking.specs.Snapshots.{played}
 use Rattle.checking.proofs.PlayLaws.{bounded}
 use Rattle.checking.proofs.PlaceLaws.{rank_here}

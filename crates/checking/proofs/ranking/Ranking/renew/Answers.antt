@@ -1,4 +1,4 @@
-use Rattle.std.proofs.Common.{◌≡◌, sym, refl, ◌∙◌, arith}
+use Rattle.std.proofs.Common.{refl, arith}
 use Rattle.checking.specs.Snapshots.{played}
 use Rattle.checking.proofs.PlayLaws.{bounded}
 use Rattle.checking.proofs.PlaceLaws.{written, zeros_kept, zeros_fall}

@@ -1,4 +1,3 @@
-use Rattle.std.proofs.Common.{◌≡◌, sym, refl, ◌∙◌, arith}
 use Rattle.checking.proofs.SnapshotLaws.{moves_taken, forbidden_taken, goals_taken}
 use Rattle.checking.proofs.snapshot.Snapshot.take.Goals as goal
 

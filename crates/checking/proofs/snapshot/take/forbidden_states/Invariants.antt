@@ -1,4 +1,4 @@
-use Rattle.games.specs.Machines.{forbidden_in, goal_in}
+use Rattle.games.specs.Machines.{forbidden_in}
 use Rattle.checking.proofs.SnapshotLaws.{Gathered}
 use Rattle.checking.proofs.snapshot.take.forbidden_states.Given as goal
 

@@ -1,6 +1,5 @@
 use Rattle.std.proofs.Common.{◌≡◌, sym, arith}
-use Rattle.games.specs.Machines.{forbidden_in, goal_in}
-use Rattle.checking.proofs.SnapshotLaws.{gather_none, gather_put, gather_skip, gathered_in, gathered_all}
+use Rattle.checking.proofs.SnapshotLaws.{gather_none, gather_put, gather_skip, gathered_in}
 use Rattle.checking.proofs.snapshot.take.goal_states.Goals as goal
 use Rattle.checking.proofs.snapshot.take.goal_states.Goals.{then-goal, else-goal}
 

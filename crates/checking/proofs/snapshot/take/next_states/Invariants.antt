@@ -1,4 +1,3 @@
-use Rattle.games.specs.Machines.{forbidden_in, goal_in}
 use Rattle.checking.proofs.SnapshotLaws.{Gathered}
 use Rattle.checking.proofs.snapshot.take.next_states.Given as goal
 

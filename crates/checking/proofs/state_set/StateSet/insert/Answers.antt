@@ -1,4 +1,3 @@
-use Rattle.std.proofs.Common.{arith}
 use Rattle.checking.proofs.StateSetLaws.{insert_low, insert_high}
 use Rattle.checking.proofs.state_set.StateSet.insert.Goals as goal
 

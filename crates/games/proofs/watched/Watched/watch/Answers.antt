@@ -1,4 +1,4 @@
-use Rattle.std.proofs.Common.{◌≡◌, ℕ, ◌*◌, ◌≤◌, sym, refl, ap, ◌∙◌, subst}
+use Rattle.std.proofs.Common.{ℕ, ◌*◌, ◌≤◌, sym, refl, ap, ◌∙◌, subst}
 use Rattle.reading.specs.RuleSheets.{Automaton, automaton_of, rule_fault}
 use Rattle.games.specs.Layers.{product}
 use Rattle.games.specs.Runs.{Paired}

@@ -1,4 +1,4 @@
-use Rattle.std.proofs.Common.{sym, ap, ◌∙◌, arith}
+use Rattle.std.proofs.Common.{sym}
 use Rattle.reading.proofs.FirstLaws.{below_some, none_more, none_end}
 use Rattle.reading.proofs.machine_sheet.MachineSheet.moves_fault.Goals as goal
 

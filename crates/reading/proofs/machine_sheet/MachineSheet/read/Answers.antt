@@ -1,6 +1,5 @@
-use Rattle.std.proofs.Common.{◌≡◌, Some, None, sym, ap, ◌∙◌}
-use Rattle.reading.specs.Faults.{numbers}
-use Rattle.reading.specs.MachineSheets.{machine_fault, sheet_of}
+use Rattle.std.proofs.Common.{sym, ◌∙◌}
+use Rattle.reading.specs.MachineSheets.{machine_fault}
 use Rattle.reading.proofs.FirstLaws.{of_none, of_left, of_right}
 use Rattle.reading.proofs.Answering.{refuses, accepts}
 use Rattle.reading.proofs.MachineLaws.{lawful_from, lawful_to, entries_next}

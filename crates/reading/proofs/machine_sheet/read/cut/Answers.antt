@@ -1,4 +1,4 @@
-use Rattle.std.proofs.Common.{◌≤◌, length, sym, arith, ltb-false}
+use Rattle.std.proofs.Common.{◌≤◌, length, arith, ltb-false}
 use Rattle.std.proofs.lemmas.List.{take_rest}
 use Rattle.reading.proofs.MachineLaws.{cut_parts}
 use Rattle.reading.proofs.machine_sheet.read.cut.Goals as goal

@@ -1,5 +1,4 @@
-use Rattle.std.proofs.Common.{◌≡◌, ℕ, ◌&&◌, ltb, replicate, refl}
-use Rattle.reading.specs.Marks.{marked, implies}
+use Rattle.std.proofs.Common.{refl}
 use Rattle.reading.proofs.MarkLaws.{none_marked}
 use Rattle.reading.proofs.mark_sheet.MarkSheet.new.Goals as goal
 

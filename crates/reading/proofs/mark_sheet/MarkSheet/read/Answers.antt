@@ -1,7 +1,7 @@
-use Rattle.std.proofs.Common.{◌≡◌, ℕ, List, length, take, drop, sym, ap, ◌∙◌, arith}
-use Rattle.reading.specs.MarkSheets.{Sets, mark_fault, Lawful}
+use Rattle.std.proofs.Common.{◌≡◌, ℕ, List, take, drop, ◌∙◌, arith}
+use Rattle.reading.specs.MarkSheets.{Sets, mark_fault}
 use Rattle.reading.proofs.Answering.{refuses, accepts}
-use Rattle.reading.proofs.MarkLaws.{Clear, clear_lawful, lawful_to, strays_first, clashes_next, same_clashes, half_kept, inside_of, apart_of}
+use Rattle.reading.proofs.MarkLaws.{clear_lawful, lawful_to, strays_first, clashes_next, same_clashes, half_kept, inside_of, apart_of}
 use Rattle.reading.proofs.mark_sheet.MarkSheet.read.Goals as goal
 
 pub returns-in-Some : goal.returns-in-Some

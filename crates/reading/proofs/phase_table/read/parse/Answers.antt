@@ -1,6 +1,5 @@
-use Rattle.std.proofs.Common.{◌≡◌, ℕ, ◌-◌, ◌*◌, ◌≤◌, List, length, get_or, take, drop, sym, ap, ◌∙◌, arith, ltb-false}
+use Rattle.std.proofs.Common.{ℕ, ◌-◌, ◌≤◌, List, length, get_or, take, drop, sym, ap, ◌∙◌, arith, ltb-false}
 use Rattle.std.proofs.lemmas.List.{take_rest}
-use Rattle.reading.specs.PhaseTables.{phase_fault}
 use Rattle.reading.proofs.PhaseLaws.{fields_from, few_entries, entries_next, table_with}
 use Rattle.reading.proofs.EntryLaws.{entries_below}
 use Rattle.reading.proofs.Padding.{front_of_zeros, closed_from}

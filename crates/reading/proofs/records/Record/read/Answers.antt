@@ -1,4 +1,4 @@
-use Rattle.std.proofs.Common.{◌≡◌, ◌*◌, ◌≤◌, length, get_or, sym, ap, ◌∙◌, arith, ltb-false}
+use Rattle.std.proofs.Common.{◌≤◌, length, get_or, ◌∙◌, arith, ltb-false}
 use Rattle.std.proofs.lemmas.List.{take_rest}
 use Rattle.reading.specs.Records.{record_fault}
 use Rattle.reading.proofs.Answering.{refuses, accepts}

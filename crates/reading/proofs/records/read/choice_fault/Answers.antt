@@ -1,4 +1,4 @@
-use Rattle.std.proofs.Common.{length, sym, arith}
+use Rattle.std.proofs.Common.{length, sym}
 use Rattle.std.proofs.lemmas.Bool.{or_left, or_right, or_from, lt-ltb, le-ltb, eq-eqb, ne_eqb}
 use Rattle.reading.proofs.FirstLaws.{below_some, none_more, unless_none, unless_some, none_end}
 use Rattle.reading.proofs.records.read.choice_fault.Goals as goal
