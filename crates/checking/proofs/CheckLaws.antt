@@ -4,7 +4,7 @@ use Rattle.std.specs.Option.{option_map}
 use Rattle.std.proofs.lemmas.Bool.{leb-true, le-leb, eqb-true, eq-eqb, and_parts, and_from}
 use Rattle.reading.specs.Faults.{Fault}
 use Rattle.reading.specs.Records.{Parts, parts_in, bound_of, record_fault}
-use Rattle.reading.proofs.FirstLaws.{not_some, not-true, of_none, of_left, of_right, none_left, none_right, unless_none, none_unless}
+use Rattle.reading.proofs.FirstLaws.{not_some, not_true, of_none, of_left, of_right, none_left, none_right, unless_none, none_unless}
 use Rattle.reading.proofs.RecordLaws.{lawful_from, lawful_to}
 use Rattle.reading.specs.declared.phase_table.PhaseTable.{PhaseTable}
 use Rattle.games.specs.declared.deal.Deal.{Deal}
@@ -98,7 +98,7 @@ module _ (m : Model) (t : PhaseTable) (d : Deal) (side : ℕ) where
 
     -- refused: the bytes are no ranked controller
     pub refuses : (x : Refusal) → check_fault m k t d side xs ≡ Some x → Decides false (Ranked m k t d side xs)
-    refuses x e = (λ z. absurd (not-true z), λ r. absurd (not_some (sym e ∙ ranked_to r)))
+    refuses x e = (λ z. absurd (not_true z), λ r. absurd (not_some (sym e ∙ ranked_to r)))
 
     pub tells : (x : Refusal) → check_fault m k t d side xs ≡ Some x → Err x ≡ check_answer m k t d side xs
     tells x e = sym (ap (λ o. answer o (bound_of (parts_in xs))) e)

@@ -7,7 +7,7 @@ use Rattle.std.proofs.lemmas.Bool.{eqb-true, eq-eqb, ne_eqb, lt-ltb, le-ltb, cas
 use Rattle.std.proofs.lemmas.Nat.{pow_pos, leading_top, div_below, mod_below, shr-shr, field_of, mul-le}
 use Rattle.reading.specs.Bytes.{bit}
 use Rattle.reading.proofs.Bits.{shift_some, shift_zero, bit_below, no_bit, bit_of_and}
-use Rattle.reading.proofs.FirstLaws.{not-true as false_not_true}
+use Rattle.reading.proofs.FirstLaws.{not_true as false_not_true}
 use Rattle.reading.specs.Marks.{implies}
 use Rattle.games.specs.Sets.{has, row, after, all_below, filled, described, Described, inside}
 

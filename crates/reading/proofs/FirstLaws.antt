@@ -6,10 +6,10 @@ use Rattle.reading.specs.Firsts.{first_some, first_below, unless, where_so, some
 pub not_some : {A : Type 0} {x : A} → ◌≡◌ {A = Option A} (Some x) None → ⊥
 not_some e = let z : ◌≡◌ {A = ℕ} 0 1 = cc in omega arith
 
-pub not-true : false ≡ true → ⊥
-not-true e = let z : ◌≡◌ {A = ℕ} 0 1 = cc in omega arith
+pub not_true : false ≡ true → ⊥
+not_true e = let z : ◌≡◌ {A = ℕ} 0 1 = cc in omega arith
 
--- first_of
+-- first_some
 pub of_none : {A : Type 0} (o p : Option A) → o ≡ None → p ≡ None → first_some o p ≡ None
 of_none (Some x) p e h = absurd (not_some e)
 of_none None p e h = h
@@ -33,24 +33,24 @@ of_right None p e = refl
 -- unless
 pub unless_none : {A : Type 0} (b : Bool) (x : A) → b ≡ true → unless b x ≡ None
 unless_none true x e = refl
-unless_none false x e = absurd (not-true e)
+unless_none false x e = absurd (not_true e)
 
 pub unless_some : {A : Type 0} (b : Bool) (x : A) → b ≡ false → unless b x ≡ Some x
-unless_some true x e = absurd (not-true (sym e))
+unless_some true x e = absurd (not_true (sym e))
 unless_some false x e = refl
 
 pub none_unless : {A : Type 0} (b : Bool) (x : A) → unless b x ≡ None → b ≡ true
 none_unless true x e = refl
 none_unless false x e = absurd (not_some e)
 
--- where-so
+-- where_so
 pub where_none : {A : Type 0} (b : Bool) (o : Option A) → (b ≡ true → o ≡ None) → where_so b o ≡ None
 where_none true o h = h refl
 where_none false o h = refl
 
 pub none_where : {A : Type 0} (b : Bool) (o : Option A) → where_so b o ≡ None → b ≡ true → o ≡ None
 none_where true o e t = e
-none_where false o e t = absurd (not-true t)
+none_where false o e t = absurd (not_true t)
 
 -- first_below: none exactly if there is none at each index
 pub below_none : {A : Type 0} (n : ℕ) (f : ℕ → Option A) → ((k : ℕ) → k < n → f k ≡ None) → first_below n f ≡ None
@@ -88,7 +88,7 @@ some_test (suc n) f k l e =
     at q = rw q at e
 
 pub test_some : (n : ℕ) (f : ℕ → Bool) → some_below n f ≡ true → (k : ℕ) × (k < n) × (f k ≡ true)
-test_some zero f e = absurd (not-true e)
+test_some zero f e = absurd (not_true e)
 test_some (suc n) f e = elim (or_cases (some_below n f) (f n) e) [ inl h ↦ earlier (test_some n f h) | inr h ↦ (n, omega arith, h) ]
   where
     earlier : (k : ℕ) × (k < n) × (f k ≡ true) → (k : ℕ) × (k < suc n) × (f k ≡ true)

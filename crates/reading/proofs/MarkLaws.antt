@@ -9,13 +9,13 @@ use Rattle.reading.specs.Bytes.{byte, bit}
 use Rattle.reading.specs.Faults.{Fault}
 use Rattle.reading.specs.Marks.{marked, implies}
 use Rattle.reading.specs.MarkSheets.{stray_fault, clash_fault, mark_fault, Lawful}
-use Rattle.reading.proofs.FirstLaws.{of_none, of_left, of_right, none_unless, unless_none, none_below, below_none, not-true}
+use Rattle.reading.proofs.FirstLaws.{of_none, of_left, of_right, none_unless, unless_none, none_below, below_none, not_true}
 use Rattle.reading.proofs.Padding.{front_of_zeros, padded_whole, zeros_are}
 use Rattle.reading.proofs.Bits.{bit_below, bits_below, bit_of_and, no_bit, no_bits}
 
 -- past 32 bytes nothing is marked
 unmarked : (xs : List ℕ) (s : ℕ) → length xs ≤ s / 8 → marked xs s ≡ true → ⊥
-unmarked xs s h e = not-true (sym (no_bit (s % 8)) ∙ sym (ap (λ x. bit x (s % 8)) (get_or_past xs (s / 8) 0 h)) ∙ e)
+unmarked xs s h e = not_true (sym (no_bit (s % 8)) ∙ sym (ap (λ x. bit x (s % 8)) (get_or_past xs (s / 8) 0 h)) ∙ e)
 
 -- a byte's bits are its eight states
 place_of : (xs : List ℕ) (j i : ℕ) → i < 8 → marked xs (j * 8 + i) ≡ bit (byte xs j) i
@@ -39,7 +39,7 @@ inside_to n xs small h j = bits_below (byte xs j) (n - 8 * j) (small j) each
 -- no state is in both sets exactly if no two bytes share a bit
 apart_from : (xs ys : List ℕ) → ((j : ℕ) → j < length xs → bit_and (byte xs j) (byte ys j) ≡ 0) → (s : ℕ) → marked xs s ≡ true → marked ys s ≡ true → ⊥
 apart_from xs ys h s e f = elim (cases_lt (s / 8) (length xs)) [
-  | inl l ↦ not-true (sym (no_bit (s % 8)) ∙ sym (ap (λ x. bit x (s % 8)) (h (s / 8) l)) ∙ bit_of_and (byte xs (s / 8)) (byte ys (s / 8)) (s % 8) ∙ and_from _ _ e f)
+  | inl l ↦ not_true (sym (no_bit (s % 8)) ∙ sym (ap (λ x. bit x (s % 8)) (h (s / 8) l)) ∙ bit_of_and (byte xs (s / 8)) (byte ys (s / 8)) (s % 8) ∙ and_from _ _ e f)
   | inr l ↦ unmarked xs s l e
 ]
 
