@@ -5,7 +5,8 @@ usage: python3 tools/respell.py [--list]      at the top of the repository, once
 
 A name is the repository's own where a file of specs/ or proofs/ declares it: a definition, a lemma, a field of a
 record, a constructor, or a name bound by `where` or `let`. Names that Rattle makes (goals, steps of a proof) and names
-imported from the kit keep their spelling, as do functions of src/, strings and comments. --list prints the pairs alone.
+imported from the kit keep their spelling, as do functions of src/, strings and comments. A tactic that is written
+with a name in ALSO is turned too: put it back by hand. --list prints the pairs alone.
 """
 
 import collections
