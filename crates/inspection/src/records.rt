@@ -1,21 +1,16 @@
 use crate::sheets::Describe;
-use reading::records::Record;
+use reading::records::{NO_CHOICE, NO_RANK, Position, Record};
 use std::alloc::AllocError;
-
-/// What stands for no choice, and for no rank.
-const NO_CHOICE: u8 = 255;
-
-const NO_RANK: u16 = 65535;
 
 /// A position's row: a position with neither choice nor rank is not kept.
 fn write_row(
     out: &mut String,
     record: &Record<'_>,
-    state: u16,
-    phase: u8,
+    at: Position,
 ) -> Result<(), AllocError> {
+    let Position { state, phase } = at;
     write!(out, "{state:>5}  {phase:>5}  ")?;
-    match (record.choice(state, phase), record.rank(state, phase)) {
+    match (record.choice(at), record.rank(at)) {
         (NO_CHOICE, NO_RANK) => writeln!(out, "not kept"),
         (NO_CHOICE, rank) => writeln!(out, "  none  {rank:>5}"),
         (choice, rank) => writeln!(out, "{choice:>6}  {rank:>5}"),
@@ -40,7 +35,7 @@ impl Describe for Record<'_> {
         writeln!(out, "state  phase  choice   rank")?;
         for state in 0..self.states {
             for phase in 0..self.phases {
-                write_row(out, self, state, phase)?;
+                write_row(out, self, Position { state, phase })?;
             }
         }
         writeln!(out, "\nbound: {} (the largest kept rank)", self.bound())

@@ -2,6 +2,12 @@ mod read;
 
 ghost use Rattle.std.specs.Prelude.{◌≡◌};
 
+/// Stands for no choice in a record.
+pub const NO_CHOICE: u8 = 255;
+
+/// Stands for no rank in a record.
+pub const NO_RANK: u16 = 65_535;
+
 /// A controller record that was read: its sizes, and the parts of the bytes that hold choices and ranks.
 #[derive(Clone, Copy)]
 pub struct Record<'a> {
@@ -10,6 +16,13 @@ pub struct Record<'a> {
     pub signals: u8,
     choices: &'a [u8],
     ranks: &'a [u8],
+}
+
+/// A position of a bay, as one side sees it: its machine's state, and the phase.
+#[derive(Clone, Copy, PartialEq, Eq, Debug)]
+pub struct Position {
+    pub state: u16,
+    pub phase: u8,
 }
 
 impl<'a> Record<'a> {

@@ -3,7 +3,7 @@ use reading::faults::ReadFault;
 use reading::machine_sheet::MachineSheet;
 use reading::mark_sheet::MarkSheet;
 use reading::phase_table::PhaseTable;
-use reading::records::Record;
+use reading::records::{Position, Record};
 use reading::rule_sheet::RuleSheet;
 use std::alloc::{AllocError, Global};
 use std::test::Fail;
@@ -313,19 +313,23 @@ fn records(rt: HostRuntime) -> Result<(), Fail> {
     Ok(())
 }
 
+fn at(state: u16, phase: u8) -> Position {
+    Position { state, phase }
+}
+
 #[test]
 fn records_say(rt: HostRuntime) -> Result<(), Fail> {
     let Ok(plan) = Record::read(&PLAN) else {
         return Err(Fail::new("refused"));
     };
     assert_eq!(rt; (plan.states, plan.phases, plan.signals), (4, 1, 2));
-    assert_eq!(rt; (plan.choice(0, 0), plan.choice(2, 0)), (1, 255));
-    assert_eq!(rt; (plan.choice(0, 1), plan.choice(4, 0)), (255, 255));
+    assert_eq!(rt; (plan.choice(at(0, 0)), plan.choice(at(2, 0))), (1, 255));
+    assert_eq!(rt; (plan.choice(at(0, 1)), plan.choice(at(4, 0))), (255, 255));
     assert_eq!(rt;
-        (plan.rank(0, 0), plan.rank(2, 0), plan.rank(3, 0)),
+        (plan.rank(at(0, 0)), plan.rank(at(2, 0)), plan.rank(at(3, 0))),
         (257, 65535, 0)
     );
-    assert_eq!(rt; (plan.rank(0, 1), plan.rank(4, 0)), (65535, 65535));
+    assert_eq!(rt; (plan.rank(at(0, 1)), plan.rank(at(4, 0))), (65535, 65535));
     assert_eq!(rt; plan.bound(), 257);
     assert_eq!(rt; (plan.choices().len(), plan.ranks().len()), (4, 8));
     assert_eq!(rt;

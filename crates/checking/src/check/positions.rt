@@ -9,18 +9,13 @@ ghost use Rattle.checking.specs.Checks.{keeps, next_fault, partner_fault, positi
 use crate::faults::CheckFault;
 use crate::seat::Seat;
 use games::machine::{Game, Machine};
-use reading::records::Record;
-
-/// What stands for no choice, and for no rank.
-const NO_CHOICE: u8 = 255;
-
-const NO_RANK: u16 = 65535;
+use reading::records::{NO_CHOICE, NO_RANK, Position, Record};
 
 /// Whether a record keeps a position: not if choice and rank are both absent.
 fn keeps(plan: &Record<'_>, state: u16, phase: u8) -> bool
     ensures { result ≡ keeps (plan_of (parts_of plan.now)) state phase }
 {
-    !(plan.choice(state, phase) == NO_CHOICE && plan.rank(state, phase) == NO_RANK)
+    !(plan.choice(Position { state, phase }) == NO_CHOICE && plan.rank(Position { state, phase }) == NO_RANK)
 }
 
 impl<G: Game> Seat<'_, G> {
@@ -35,7 +30,7 @@ impl<G: Game> Seat<'_, G> {
     ) -> Option<CheckFault>
         ensures { told_some result ≡ next_fault (playing G.Machine.meaning G.Game.marks self.now) (plan_of (parts_of plan.now)) state phase partner next }
     {
-        let own = plan.choice(state, phase);
+        let own = plan.choice(Position { state, phase });
         if !self.game.may_move(state, own, partner, next) {
             return None;
         }
@@ -48,7 +43,7 @@ impl<G: Game> Seat<'_, G> {
                 next,
             });
         }
-        if self.game.goal(state) || plan.rank(next, follow) < plan.rank(state, phase) {
+        if self.game.goal(state) || plan.rank(Position { state: next, phase: follow }) < plan.rank(Position { state, phase }) {
             return None;
         }
         Some(CheckFault::NotLower {
@@ -90,7 +85,7 @@ impl<G: Game> Seat<'_, G> {
         if !self.relied(phase, partner) {
             return None;
         }
-        if !self.has_next(state, plan.choice(state, phase), partner) {
+        if !self.has_next(state, plan.choice(Position { state, phase }), partner) {
             return Some(CheckFault::NoNext {
                 state,
                 phase,
@@ -116,8 +111,8 @@ impl<G: Game> Seat<'_, G> {
     fn position_fault(&self, plan: &Record<'_>, state: u16, phase: u8) -> Option<CheckFault>
         ensures { told_some result ≡ position_fault (playing G.Machine.meaning G.Game.marks self.now) (plan_of (parts_of plan.now)) state phase }
     {
-        let choice = plan.choice(state, phase);
-        let rank = plan.rank(state, phase);
+        let choice = plan.choice(Position { state, phase });
+        let rank = plan.rank(Position { state, phase });
         if (choice == NO_CHOICE) != (rank == NO_RANK) {
             return Some(CheckFault::HalfKept { state, phase });
         }

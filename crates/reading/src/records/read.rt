@@ -1,11 +1,11 @@
-ghost use Rattle.std.specs.Prelude.{◌≡◌, ◌^◌, ◌<◌, ◌≤◌, length, is_ok, IfOk, Decides};
+ghost use Rattle.std.specs.Prelude.{◌≡◌, ◌+◌, ◌*◌, ◌^◌, ◌<◌, ◌≤◌, length, is_ok, IfOk, Decides};
 ghost use Rattle.reading.specs.Firsts.{first_below};
 ghost use Rattle.reading.specs.Faults.{told, told_some};
 ghost use Rattle.reading.specs.Records.{parts_in, parts_of, inside, choice_at, rank_at, kept_rank, bound_of, field_fault, choice_fault, record_fault, Lawful};
 
 use crate::bytes::{byte_at, length_place, pair_at, two_bytes};
 use crate::faults::ReadFault;
-use crate::records::Record;
+use crate::records::{NO_CHOICE, NO_RANK, Position, Record};
 
 /// The first size out of range.
 fn field_fault(states: u16, phases: u8, signals: u8) -> Option<ReadFault>
@@ -30,7 +30,7 @@ fn choice_fault(choices: &[u8], signals: u8) -> Option<ReadFault>
 {
     for i in 0..choices.len() {
         let choice = choices[i];
-        if choice >= signals && choice != 255 {
+        if choice >= signals && choice != NO_CHOICE {
             return Some(ReadFault::Entry(4 + i as u16));
         }
     }
@@ -68,37 +68,40 @@ impl<'a> Record<'a> {
         })
     }
 
-    /// Whether the record has a position for the state and the phase.
-    fn inside(&self, state: u16, phase: u8) -> bool
-        ensures { result ≡ inside (parts_of self.now) state phase }
+    /// Whether the record has a position.
+    fn inside(&self, at: Position) -> bool
+        ensures { result ≡ inside (parts_of self.now) at.state at.phase }
     {
-        state < self.states && phase < self.phases
+        at.state < self.states && at.phase < self.phases
+    }
+
+    /// Where a position stands among the choices, and among the ranks.
+    fn place(&self, at: Position) -> usize
+        ensures { result ≡ at.state * self.now.phases + at.phase }
+    {
+        usize::from(at.state) * usize::from(self.phases) + usize::from(at.phase)
     }
 
     /// The signal to show; 255 where there is none.
-    pub fn choice(&self, state: u16, phase: u8) -> u8
-        ensures { result ≡ choice_at (parts_of self.now) state phase }
+    pub fn choice(&self, at: Position) -> u8
+        ensures { result ≡ choice_at (parts_of self.now) at.state at.phase }
     {
-        if !self.inside(state, phase) {
-            return 255;
+        if self.inside(at) {
+            byte_at(self.choices, self.place(at))
+        } else {
+            NO_CHOICE
         }
-        byte_at(
-            self.choices,
-            state as usize * self.phases as usize + phase as usize,
-        )
     }
 
     /// At most how many ticks to a goal; 65,535 where there is no rank.
-    pub fn rank(&self, state: u16, phase: u8) -> u16
-        ensures { result ≡ rank_at (parts_of self.now) state phase }
+    pub fn rank(&self, at: Position) -> u16
+        ensures { result ≡ rank_at (parts_of self.now) at.state at.phase }
     {
-        if !self.inside(state, phase) {
-            return 65535;
+        if self.inside(at) {
+            pair_at(self.ranks, 2 * self.place(at))
+        } else {
+            NO_RANK
         }
-        pair_at(
-            self.ranks,
-            2 * (state as usize * self.phases as usize + phase as usize),
-        )
     }
 
     /// The rank at a place, or 0 where the position is not kept.
@@ -107,7 +110,7 @@ impl<'a> Record<'a> {
         ensures { result ≡ kept_rank (parts_of self.now) place }
     {
         let rank = pair_at(self.ranks, 2 * place);
-        if byte_at(self.choices, place) == 255 && rank == 65535 {
+        if byte_at(self.choices, place) == NO_CHOICE && rank == NO_RANK {
             return 0;
         }
         rank
