@@ -74,6 +74,10 @@ below_some (suc n) f k x l e h =
     at : k ≡ n → first_some (first_below n f) (f n) ≡ Some x
     at q = of_right (first_below n f) (f n) (rw q at e) ∙ rw q at h
 
+-- a loop that stops at the first index where there is some
+pub stopped : {A : Type 0} (n : ℕ) (f : ℕ → Option A) (k : ℕ) {x : A} → k < n → first_below k f ≡ None → Some x ≡ f k → Some x ≡ first_below n f
+stopped n f k l e h = sym (below_some n f k _ l e (sym h))
+
 -- one more turn of a loop
 pub none_more : {A : Type 0} (i : ℕ) (f : ℕ → Option A) → first_below i f ≡ None → f i ≡ None → first_below (i + 1) f ≡ None
 none_more i f e h = rw add-one (of_none (first_below i f) (f i) e h)

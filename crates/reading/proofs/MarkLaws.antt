@@ -1,15 +1,15 @@
 -- Mark sheets: from the order of faults to the lawful sheet, and back.
-use Rattle.std.proofs.Common.{◌≡◌, ℕ, ◌+◌, ◌-◌, ◌*◌, ◌/◌, ◌%◌, ◌^◌, ◌<◌, ◌≤◌, Bool, true, false, ◌&&◌, ltb, List, ◌++◌, length, take, drop, replicate, Some, None, Option, sym, refl, ap, ◌∙◌, subst, inl, inr, mod-eq_of_lt, arith, length-drop, length-take}
+use Rattle.std.proofs.Common.{◌≡◌, ℕ, ◌+◌, ◌-◌, ◌*◌, ◌/◌, ◌%◌, ◌^◌, ◌<◌, ◌≤◌, Bool, true, false, ◌&&◌, eqb, ltb, List, ◌++◌, length, take, drop, replicate, Some, None, Option, sym, refl, ap, ◌∙◌, subst, inl, inr, mod-eq_of_lt, arith, length-drop, length-take}
 use lib.Bits.{bit_and}
 use Rattle.std.proofs.lemmas.List.{get_or-take, get_or-drop, get_or_past}
 use Rattle.std.proofs.lemmas.Nat.{div-mul-add, mod-mul-add, div-add-mod', and_le_l}
 use Rattle.std.proofs.lemmas.Bool.{ltb-true, eqb-true, lt-ltb, eq-eqb, cases_lt, and_parts, and_from}
-use Rattle.reading.specs.Firsts.{first_below}
+use Rattle.reading.specs.Firsts.{first_below, unless}
 use Rattle.reading.specs.Bytes.{byte, bit}
-use Rattle.reading.specs.Faults.{Fault}
+use Rattle.reading.specs.Faults.{Fault, fault, length_place}
 use Rattle.reading.specs.Marks.{marked, implies}
-use Rattle.reading.specs.MarkSheets.{stray_fault, clash_fault, mark_fault, Lawful}
-use Rattle.reading.proofs.FirstLaws.{of_none, of_left, of_right, none_unless, unless_none, none_below, below_none, not_true}
+use Rattle.reading.specs.MarkSheets.{Sets, stray_fault, clash_fault, mark_fault, Lawful}
+use Rattle.reading.proofs.FirstLaws.{of_none, none_left, none_right, none_unless, unless_none, none_below, below_none, not_true}
 use Rattle.reading.proofs.Padding.{front_of_zeros, padded_whole, zeros_are}
 use Rattle.reading.proofs.Bits.{bit_below, bits_below, bit_of_and, no_bit, no_bits}
 
@@ -99,8 +99,16 @@ module _ (n : ℕ) (xs : List ℕ) where
         apart = apart_from (take 32 xs) (drop 32 xs) (λ j l. eqb-true _ _ (none_unless _ _ (none_below _ _ (sym c.clashes) j l)));
       }
 
-  pub clear_none : Clear → mark_fault n xs ≡ None
-  clear_none c = of_none _ _ (unless_none _ _ (eq-eqb _ _ c.long)) (of_none _ _ (sym c.strays) (sym c.clashes))
+  pub lawful_from : mark_fault n xs ≡ None → Lawful n xs
+  lawful_from e =
+      let size : Option Fault = unless (eqb (length xs) 64) (fault 3 (length_place xs)) in
+      let stray : Option Fault = first_below (length xs) (stray_fault n xs) in
+      let r = none_right size _ e in
+      clear_lawful (record {
+        long = eqb-true _ _ (none_unless _ _ (none_left size _ e));
+        strays = sym (none_left stray _ r);
+        clashes = sym (none_right stray _ r);
+      })
 
   pub lawful_to : ((j : ℕ) → byte xs j < 256) → Lawful n xs → mark_fault n xs ≡ None
   lawful_to small w =
@@ -114,14 +122,6 @@ module _ (n : ℕ) (xs : List ℕ) where
 
       small_high : (j : ℕ) → byte (drop 32 xs) j < 256
       small_high j = rw get_or-drop (small (32 + j))
-
-  -- a byte out of range comes before a state in both sets
-  pub strays_first : {x : Fault} → length xs ≡ 64 → Some x ≡ first_below (length xs) (stray_fault n xs) → Some x ≡ mark_fault n xs
-  strays_first l e = sym (of_right _ _ (unless_none _ _ (eq-eqb _ _ l)) ∙ of_left _ _ _ (sym e))
-
-  pub clashes_next : {o : Option Fault} → length xs ≡ 64 → None ≡ first_below (length xs) (stray_fault n xs)
-      → o ≡ first_below (length (take 32 xs)) (clash_fault (take 32 xs) (drop 32 xs)) → o ≡ mark_fault n xs
-  clashes_next l s e = e ∙ sym (of_right _ _ (unless_none _ _ (eq-eqb _ _ l)) ∙ of_right _ _ (sym s))
 
 pub same_clashes : (xs forbidden goals : List ℕ) → forbidden ≡ take 32 xs → goals ≡ drop 32 xs
     → first_below (length forbidden) (clash_fault forbidden goals) ≡ first_below (length (take 32 xs)) (clash_fault (take 32 xs) (drop 32 xs))
@@ -150,3 +150,7 @@ apart_of xs ys zs ws e f h s = rw (e, f) (go (marked xs s) (marked ys s) refl re
 -- nothing is marked in zeros
 pub none_marked : (s : ℕ) → marked (replicate 32 0) s ≡ false
 none_marked s = ap (λ x. bit x (s % 8)) (zeros_are 32 (s / 8)) ∙ no_bit (s % 8)
+
+-- the sets of a sheet, by its halves
+pub sets_with : (n : ℕ) {a b x y : List ℕ} → a ≡ x → b ≡ y → ◌≡◌ {A = Sets} (record { states = n; forbidden = a; goals = b }) (record { states = n; forbidden = x; goals = y })
+sets_with n p q = cc

@@ -4,8 +4,9 @@ use Rattle.std.proofs.lemmas.Nat.{mul-le}
 use Rattle.std.proofs.lemmas.Bool.{leb-true, eqb-true, le-leb, eq-eqb}
 use Rattle.reading.specs.Firsts.{first_below, unless}
 use Rattle.reading.specs.Bytes.{byte, padded}
+use Rattle.reading.specs.Sizes.{field_fault}
 use Rattle.reading.specs.Faults.{Fault, fault, length_place, entry_fault}
-use Rattle.reading.specs.PhaseTables.{Table, table_in, size_in, field_fault, head_fault, phase_fault, Lawful}
+use Rattle.reading.specs.PhaseTables.{Table, table_in, size_in, head_fault, phase_fault, Lawful}
 use Rattle.reading.proofs.FirstLaws.{none_left, none_right, of_none, of_right, none_unless, unless_none}
 use Rattle.reading.proofs.EntryLaws.{entries_below, below_entries}
 use Rattle.reading.proofs.Ranges.{from_within, to_within}
@@ -72,5 +73,6 @@ lawful_to xs w =
 abbrev table : ℕ → ℕ → ℕ → List ℕ → Table
 table p k0 k1 entries = record { phases = p; signals0 = k0; signals1 = k1; entries = entries }
 
-pub table_with : (xs entries : List ℕ) → entries ≡ padded 128 (drop 3 xs) → table (byte xs 0) (byte xs 1) (byte xs 2) entries ≡ table_in xs
-table_with xs entries e = ap (table (byte xs 0) (byte xs 1) (byte xs 2)) e
+pub table_with : (xs : List ℕ) (p k0 k1 : ℕ) (entries : List ℕ) → p ≡ byte xs 0 → k0 ≡ byte xs 1 → k1 ≡ byte xs 2
+    → entries ≡ padded 128 (drop 3 xs) → table p k0 k1 entries ≡ table_in xs
+table_with xs p k0 k1 entries hp h0 h1 e = cc

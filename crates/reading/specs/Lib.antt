@@ -1,3 +1,4 @@
+pub mod Sides
 pub mod Firsts
 pub mod Bytes
 pub mod Faults
@@ -6,5 +7,6 @@ pub mod Marks
 pub mod MarkSheets
 pub mod Limits
 pub mod RuleSheets
+pub mod Sizes
 pub mod PhaseTables
 pub mod Records

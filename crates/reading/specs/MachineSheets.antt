@@ -32,10 +32,10 @@ sheet_in xs = record {
 -- the sheet that was read
 abbrev pub sheet_of : MachineSheet → Sheet
 sheet_of s = record {
-  states = s.states;
-  own = s.own;
-  partner = s.partner;
-  start = s.start;
+  states = s.frame.states;
+  own = s.frame.own;
+  partner = s.frame.partner;
+  start = s.frame.start;
   moves = s.moves;
   labels = s.labels.now;
   keys = s.keys.now;

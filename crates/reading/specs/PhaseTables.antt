@@ -3,6 +3,7 @@ use Rattle.std.specs.Prelude.{◌≡◌, ℕ, ◌+◌, ◌*◌, ◌<◌, ◌≤�
 use Rattle.reading.specs.declared.phase_table.PhaseTable.{PhaseTable}
 use Rattle.reading.specs.Firsts.{first_some, first_below, unless}
 use Rattle.reading.specs.Bytes.{byte, within, padded}
+use Rattle.reading.specs.Sizes.{field_fault}
 use Rattle.reading.specs.Faults.{Fault, fault, length_place, entry_fault}
 
 -- what a phase table says; its entries lie in 128 bytes, zeros behind the last
@@ -24,9 +25,9 @@ table_in xs = record {
 -- the table in a place
 abbrev pub table_of : PhaseTable → Table
 table_of t = record {
-  phases = t.phases;
-  signals0 = t.signals0;
-  signals1 = t.signals1;
+  phases = t.sizes.phases;
+  signals0 = t.sizes.signals.first;
+  signals1 = t.sizes.signals.second;
   entries = t.entries;
 }
 
@@ -40,13 +41,6 @@ next_phase t p a b =
     cond (nat_lt p t.phases && (nat_lt a t.signals0 && nat_lt b t.signals1))
     (byte t.entries ((p * t.signals0 + a) * t.signals1 + b))
     0
-
--- a field out of range, in field order
-abbrev pub field_fault : ℕ → ℕ → ℕ → Option Fault
-field_fault p k0 k1 =
-    first_some (unless (within 1 8 p) (fault 2 0))
-    (first_some (unless (within 1 4 k0) (fault 2 1))
-    (unless (within 1 4 k1) (fault 2 2)))
 
 -- the number of entries
 abbrev pub size_in : List ℕ → ℕ

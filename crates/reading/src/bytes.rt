@@ -1,37 +1,26 @@
-ghost use Rattle.std.specs.Prelude.{◌≡◌, ◌+◌, ◌*◌, ◌^◌, ◌<◌, ◌≤◌, min, not, ◌++◌, length, drop, nat_lt};
+ghost use Rattle.std.specs.Prelude.{◌≡◌, ◌+◌, ◌*◌, ◌^◌, ◌<◌, ◌≤◌, min, ◌++◌, length, drop, nat_lt};
 ghost use Rattle.reading.specs.Bytes.{byte, pair, bit};
 ghost use Rattle.reading.specs.Faults.{length_place};
-
-/// Two bytes as a number, the low byte first.
-pub(crate) fn two_bytes(low: u8, high: u8) -> u16
-    ensures { result ≡ low + 256 * high }
-{
-    low as u16 + 256 * high as u16
-}
 
 /// A byte, or 0 past the end.
 pub fn byte_at(bytes: &[u8], i: usize) -> u8
     ensures { result ≡ byte bytes.now i }
 {
-    if i < bytes.len() { bytes[i] } else { 0 }
+    bytes.get(i).copied().unwrap_or(0)
 }
 
 /// A two-byte number, the low byte first; bytes past the end are 0.
 pub(crate) fn pair_at(bytes: &[u8], i: usize) -> u16
     ensures { result ≡ pair bytes.now i }
 {
-    if i < bytes.len() {
-        two_bytes(bytes[i], byte_at(bytes, i + 1))
-    } else {
-        0
-    }
+    u16::from_le_bytes([byte_at(bytes, i), byte_at(bytes, i.saturating_add(1))])
 }
 
 /// The length as a place: at most 65,535.
 pub(crate) fn length_place(bytes: &[u8]) -> u16
     ensures { result ≡ length_place bytes.now }
 {
-    bytes.len().min(65535) as u16
+    u16::try_from(bytes.len()).unwrap_or(u16::MAX)
 }
 
 /// Whether a byte has a bit.
@@ -42,11 +31,11 @@ pub(crate) fn has_bit(x: u8, i: u8) -> bool
     (x >> i) % 2 == 1
 }
 
-/// Whether a byte has a bit from `room` up.
-pub(crate) fn strays(x: u8, room: u16) -> bool
-    ensures { result ≡ not (nat_lt x (2 ^ room)) }
+/// Whether a byte has no bit from `room` up.
+pub(crate) fn fits(x: u8, room: u16) -> bool
+    ensures { result ≡ nat_lt x (2 ^ room) }
 {
-    room < 8 && x >> room != 0
+    room >= 8 || x >> room == 0
 }
 
 /// Copies bytes to the front of a buffer.
@@ -54,6 +43,5 @@ pub(crate) fn put_front(buffer: &mut [u8], part: &[u8])
     requires { length part.now ≤ length buffer.old }
     ensures { buffer.new ≡ part.now ++ drop (length part.now) buffer.old }
 {
-    let size = part.len();
-    buffer[0..size].copy_from_slice(part);
+    buffer[..part.len()].copy_from_slice(part);
 }

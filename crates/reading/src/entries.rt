@@ -1,18 +1,16 @@
 ghost use Rattle.std.specs.Prelude.{◌≡◌, ◌+◌, ◌<◌, length};
 ghost use Rattle.reading.specs.Firsts.{first_below};
-ghost use Rattle.reading.specs.Faults.{told_some, entry_fault};
+ghost use Rattle.reading.specs.Faults.{told, entry_fault};
 
-use crate::faults::ReadFault;
+use crate::faults::{ReadFault, check};
 
-/// The first entry that is not below its limit, placed from an offset on.
-pub(crate) fn entry_fault(entries: &[u8], limit: u8, offset: u16) -> Option<ReadFault>
+/// The first entry that is not below its limit is a fault, placed from an offset on.
+pub(crate) fn check_entries(entries: &[u8], limit: u8, offset: u16) -> Result<(), ReadFault>
     requires { offset + length entries.now < 65536 }
-    ensures { told_some result ≡ first_below (length entries.now) (entry_fault entries.now limit offset) }
+    ensures { told result ≡ first_below (length entries.now) (entry_fault entries.now limit offset) }
 {
-    for i in 0..entries.len() {
-        if entries[i] >= limit {
-            return Some(ReadFault::Entry(offset + i as u16));
-        }
+    for (i, entry) in entries.iter().enumerate() {
+        check(*entry < limit, ReadFault::Entry(offset + i as u16))?;
     }
-    None
+    Ok(())
 }

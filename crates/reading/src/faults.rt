@@ -1,5 +1,9 @@
 mod numbers;
 
+ghost use Rattle.std.specs.Prelude.{◌≡◌};
+ghost use Rattle.reading.specs.Firsts.{unless};
+ghost use Rattle.reading.specs.Faults.{numbers, told};
+
 /// Why bytes are no sheet, with the place of the first byte that is wrong.
 #[derive(Clone, Copy, PartialEq, Eq, Debug)]
 pub enum ReadFault {
@@ -17,4 +21,11 @@ pub enum ReadFault {
     Clash(u16),
     /// More than 256 states together with the automaton's.
     TooLarge,
+}
+
+/// A fault, unless the test holds.
+pub(crate) fn check(test: bool, fault: ReadFault) -> Result<(), ReadFault>
+    ensures { told result ≡ unless test (numbers fault) }
+{
+    if test { Ok(()) } else { Err(fault) }
 }

@@ -8,3 +8,5 @@ pub mod mark_sheet;
 pub mod phase_table;
 pub mod records;
 pub mod rule_sheet;
+pub mod sides;
+pub mod sizes;

@@ -1,22 +1,40 @@
 mod read;
 
-ghost use Rattle.std.specs.Prelude.{◌≡◌};
+ghost use Rattle.std.specs.Prelude.{◌≡◌, ◌*◌, ◌<◌, ◌≤◌, length};
 
-/// A machine sheet that was read: its sizes, and the parts of the bytes that hold labels, keys and targets.
-#[derive(Clone, Copy)]
-pub struct MachineSheet<'a> {
+/// How large a machine is, and where it starts.
+#[derive(Clone, Copy, PartialEq, Eq, Debug)]
+pub struct Frame {
     pub states: u16,
     pub own: u8,
     pub partner: u8,
     pub start: u16,
+    ghost some_states: { 1 ≤ states },
+    ghost few_states: { states ≤ 256 },
+    ghost some_own: { 1 ≤ own },
+    ghost few_own: { own ≤ 4 },
+    ghost some_partner: { 1 ≤ partner },
+    ghost few_partner: { partner ≤ 4 },
+    ghost starts: { start < states },
+}
+
+/// A machine sheet that was read: its sizes, and the parts of the bytes that hold labels, keys and targets.
+#[derive(Clone, Copy)]
+pub struct MachineSheet<'a> {
+    pub frame: Frame,
     pub moves: u16,
     labels: &'a [u8],
     keys: &'a [u8],
     targets: &'a [u8],
+    ghost few_moves: { moves ≤ 4096 },
+    ghost labelled: { length labels.now ≡ frame.states },
+    ghost keyed: { length keys.now ≡ 2 * moves },
+    ghost targeted: { length targets.now ≡ 2 * moves },
 }
 
 /// A move as a sheet lists it: the key is (state × own signals + own) × partner signals + partner.
-#[derive(Clone, Copy, PartialEq, Eq, Debug)]
+/// Moves are in order by key, then by target.
+#[derive(Clone, Copy, PartialEq, Eq, PartialOrd, Ord, Debug)]
 pub struct Move {
     pub key: u16,
     pub target: u16,

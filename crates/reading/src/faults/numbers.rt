@@ -24,12 +24,12 @@ impl ReadFault {
         ensures { result ≡ (numbers self.now).place }
     {
         match *self {
-            ReadFault::Short(at) => at,
-            ReadFault::Field(at) => at,
-            ReadFault::Size(at) => at,
-            ReadFault::Entry(at) => at,
-            ReadFault::Order(at) => at,
-            ReadFault::Clash(at) => at,
+            ReadFault::Short(at)
+            | ReadFault::Field(at)
+            | ReadFault::Size(at)
+            | ReadFault::Entry(at)
+            | ReadFault::Order(at)
+            | ReadFault::Clash(at) => at,
             ReadFault::TooLarge => 0,
         }
     }

@@ -1,54 +1,42 @@
-ghost use Rattle.std.specs.Prelude.{◌≡◌, ◌-◌, ◌*◌, ◌%◌, ◌^◌, ◌<◌, not, length, is_ok, IfOk, Decides, nat_lt};
+ghost use Rattle.std.specs.Prelude.{◌≡◌, ◌-◌, ◌*◌, ◌%◌, ◌^◌, ◌<◌, length, is_ok, IfOk, Decides, nat_lt};
 ghost use Rattle.reading.specs.Firsts.{first_below};
-ghost use Rattle.reading.specs.Faults.{told, told_some};
-ghost use Rattle.reading.specs.Bytes.{byte};
+ghost use Rattle.reading.specs.Faults.{told};
 ghost use Rattle.reading.specs.Marks.{marked};
 ghost use Rattle.reading.specs.MarkSheets.{sets_in, sets_of, unmarked, stray_fault, clash_fault, mark_fault, Lawful};
 
-use crate::bytes::{has_bit, length_place, put_front, strays};
-use crate::faults::ReadFault;
+use crate::bytes::{fits, has_bit, length_place, put_front};
+use crate::faults::{ReadFault, check};
 use crate::mark_sheet::MarkSheet;
 
-/// Whether the byte at a place has a state out of range.
-fn stray_at(bytes: &[u8], states: u16, j: usize) -> bool
-    requires { j < length bytes.now }
-    ensures { result ≡ not (nat_lt (byte bytes.now j) (2 ^ (states - 8 * (j % 32)))) }
-{
-    strays(bytes[j], states.saturating_sub(8 * (j % 32) as u16))
-}
-
-/// The first byte with a state out of range.
-fn stray_fault(bytes: &[u8], states: u16) -> Option<ReadFault>
+/// The first byte with a state out of range is a fault.
+fn check_strays(bytes: &[u8], states: u16) -> Result<(), ReadFault>
     requires { length bytes.now ≡ 64 }
-    ensures { told_some result ≡ first_below (length bytes.now) (stray_fault states bytes.now) }
+    ensures { told result ≡ first_below (length bytes.now) (stray_fault states bytes.now) }
 {
-    for j in 0..bytes.len() {
-        if stray_at(bytes, states, j) {
-            return Some(ReadFault::Entry(j as u16));
-        }
+    for (j, byte) in bytes.iter().enumerate() {
+        let room = states.saturating_sub(8 * (j % 32) as u16);
+        check(fits(*byte, room), ReadFault::Entry(j as u16))?;
     }
-    None
+    Ok(())
 }
 
-/// The first byte of forbidden states that shares a state with the goals.
-fn clash_fault(forbidden: &[u8], goals: &[u8]) -> Option<ReadFault>
+/// The first byte of forbidden states that shares a state with the goals is a fault.
+fn check_clashes(forbidden: &[u8], goals: &[u8]) -> Result<(), ReadFault>
     requires few { length forbidden.now ≡ 32 }
     requires alike { length goals.now ≡ 32 }
-    ensures { told_some result ≡ first_below (length forbidden.now) (clash_fault forbidden.now goals.now) }
+    ensures { told result ≡ first_below (length forbidden.now) (clash_fault forbidden.now goals.now) }
 {
-    for j in 0..forbidden.len() {
-        if forbidden[j] & goals[j] != 0 {
-            return Some(ReadFault::Clash(j as u16));
-        }
+    for (j, byte) in forbidden.iter().enumerate() {
+        check(*byte & goals[j] == 0, ReadFault::Clash(j as u16))?;
     }
-    None
+    Ok(())
 }
 
 /// Whether a state is in a set.
 fn contains(set: &[u8; 32], state: u16) -> bool
     ensures { result ≡ marked set.now state }
 {
-    let j = state as usize / 8;
+    let j = usize::from(state / 8);
     j < 32 && has_bit(set[j], (state % 8) as u8)
 }
 
@@ -70,16 +58,10 @@ impl MarkSheet {
         ensures value { IfOk result (λ m. sets_of m ≡ sets_in states bytes.now) }
         ensures lawful { Decides (is_ok result) (Lawful states bytes.now) }
     {
-        if bytes.len() != 64 {
-            return Err(ReadFault::Size(length_place(bytes)));
-        }
-        if let Some(fault) = stray_fault(bytes, states) {
-            return Err(fault);
-        }
+        check(bytes.len() == 64, ReadFault::Size(length_place(bytes)))?;
+        check_strays(bytes, states)?;
         let (first, second) = bytes.split_at(32);
-        if let Some(fault) = clash_fault(first, second) {
-            return Err(fault);
-        }
+        check_clashes(first, second)?;
         let mut forbidden = [0; 32];
         put_front(&mut forbidden, first);
         let mut goals = [0; 32];

@@ -1,27 +1,12 @@
 ghost use Rattle.std.specs.Prelude.{◌≡◌, is_ok, IfOk, Decides, MatchResult};
-ghost use Rattle.reading.specs.Faults.{told, told_some};
-ghost use Rattle.reading.specs.PhaseTables.{table_in, table_of, single, next_phase, field_fault, phase_fault, Lawful};
+ghost use Rattle.reading.specs.Faults.{told};
+ghost use Rattle.reading.specs.PhaseTables.{table_in, table_of, single, next_phase, phase_fault, Lawful};
 
 use crate::bytes::{byte_at, length_place, put_front};
-use crate::entries::entry_fault;
-use crate::faults::ReadFault;
+use crate::entries::check_entries;
+use crate::faults::{ReadFault, check};
 use crate::phase_table::PhaseTable;
-
-/// The first size out of range.
-fn field_fault(phases: u8, signals0: u8, signals1: u8) -> Option<ReadFault>
-    ensures { told_some result ≡ field_fault phases signals0 signals1 }
-{
-    if phases < 1 || phases > 8 {
-        return Some(ReadFault::Field(0));
-    }
-    if signals0 < 1 || signals0 > 4 {
-        return Some(ReadFault::Field(1));
-    }
-    if signals1 < 1 || signals1 > 4 {
-        return Some(ReadFault::Field(2));
-    }
-    None
-}
+use crate::sizes::Sizes;
 
 /// The table in the bytes, or their first fault.
 fn parse(bytes: &[u8]) -> Result<PhaseTable, ReadFault>
@@ -31,23 +16,13 @@ fn parse(bytes: &[u8]) -> Result<PhaseTable, ReadFault>
     let [phases, signals0, signals1, rest @ ..] = bytes else {
         return Err(ReadFault::Short(length_place(bytes)));
     };
-    if let Some(fault) = field_fault(*phases, *signals0, *signals1) {
-        return Err(fault);
-    }
-    if rest.len() != *phases as usize * *signals0 as usize * *signals1 as usize {
-        return Err(ReadFault::Size(length_place(bytes)));
-    }
-    if let Some(fault) = entry_fault(rest, *phases, 3) {
-        return Err(fault);
-    }
+    let sizes = Sizes::new(*phases, *signals0, *signals1)?;
+    let size = usize::from(*phases) * usize::from(*signals0) * usize::from(*signals1);
+    check(rest.len() == size, ReadFault::Size(length_place(bytes)))?;
+    check_entries(rest, *phases, 3)?;
     let mut entries = [0; 128];
     put_front(&mut entries, rest);
-    Ok(PhaseTable {
-        phases: *phases,
-        signals0: *signals0,
-        signals1: *signals1,
-        entries,
-    })
+    Ok(PhaseTable { sizes, entries })
 }
 
 impl PhaseTable {
@@ -56,9 +31,7 @@ impl PhaseTable {
         ensures { table_of result ≡ single }
     {
         PhaseTable {
-            phases: 1,
-            signals0: 1,
-            signals1: 1,
+            sizes: Sizes::least(),
             entries: [0; 128],
         }
     }
@@ -77,11 +50,12 @@ impl PhaseTable {
     pub fn next(&self, phase: u8, first: u8, second: u8) -> u8
         ensures { result ≡ next_phase (table_of self.now) phase first second }
     {
-        if phase < self.phases && first < self.signals0 && second < self.signals1 {
-            let row = phase as usize * self.signals0 as usize + first as usize;
+        let signals = self.sizes.signals();
+        if phase < self.sizes.phases() && first < signals.first && second < signals.second {
+            let row = usize::from(phase) * usize::from(signals.first) + usize::from(first);
             byte_at(
                 &self.entries,
-                row * self.signals1 as usize + second as usize,
+                row * usize::from(signals.second) + usize::from(second),
             )
         } else {
             0

@@ -1,40 +1,31 @@
 ghost use Rattle.std.specs.Prelude.{◌≡◌, ◌+◌, ◌*◌, ◌^◌, ◌<◌, ◌≤◌, length, is_ok, IfOk, Decides};
 ghost use Rattle.reading.specs.Firsts.{first_below};
-ghost use Rattle.reading.specs.Faults.{told, told_some};
+ghost use Rattle.reading.specs.Faults.{told};
 ghost use Rattle.reading.specs.Records.{parts_in, parts_of, inside, choice_at, rank_at, kept_rank, bound_of, field_fault, choice_fault, record_fault, Lawful};
 
-use crate::bytes::{byte_at, length_place, pair_at, two_bytes};
-use crate::faults::ReadFault;
+use crate::bytes::{byte_at, length_place, pair_at};
+use crate::faults::{ReadFault, check};
 use crate::records::{NO_CHOICE, NO_RANK, Position, Record};
 
-/// The first size out of range.
-fn field_fault(states: u16, phases: u8, signals: u8) -> Option<ReadFault>
-    ensures { told_some result ≡ field_fault states phases signals }
+/// The first size out of range is a fault.
+fn check_fields(states: u16, phases: u8, signals: u8) -> Result<(), ReadFault>
+    ensures { told result ≡ field_fault states phases signals }
 {
-    if states < 1 || states > 256 {
-        return Some(ReadFault::Field(0));
-    }
-    if phases < 1 || phases > 8 {
-        return Some(ReadFault::Field(2));
-    }
-    if signals < 1 || signals > 4 {
-        return Some(ReadFault::Field(3));
-    }
-    None
+    check(1 <= states && states <= 256, ReadFault::Field(0))?;
+    check(1 <= phases && phases <= 8, ReadFault::Field(2))?;
+    check(1 <= signals && signals <= 4, ReadFault::Field(3))
 }
 
-/// The first choice that is no signal and not absent.
-fn choice_fault(choices: &[u8], signals: u8) -> Option<ReadFault>
+/// The first choice that is no signal and not absent is a fault.
+fn check_choices(choices: &[u8], signals: u8) -> Result<(), ReadFault>
     requires { length choices.now ≤ 2048 }
-    ensures { told_some result ≡ first_below (length choices.now) (choice_fault choices.now signals) }
+    ensures { told result ≡ first_below (length choices.now) (choice_fault choices.now signals) }
 {
-    for i in 0..choices.len() {
-        let choice = choices[i];
-        if choice >= signals && choice != NO_CHOICE {
-            return Some(ReadFault::Entry(4 + i as u16));
-        }
+    for (i, choice) in choices.iter().enumerate() {
+        let fits = *choice < signals || *choice == NO_CHOICE;
+        check(fits, ReadFault::Entry(4 + i as u16))?;
     }
-    None
+    Ok(())
 }
 
 impl<'a> Record<'a> {
@@ -47,18 +38,12 @@ impl<'a> Record<'a> {
         let [low, high, phases, signals, rest @ ..] = bytes else {
             return Err(ReadFault::Short(length_place(bytes)));
         };
-        let states = two_bytes(*low, *high);
-        if let Some(fault) = field_fault(states, *phases, *signals) {
-            return Err(fault);
-        }
-        let size = states as usize * *phases as usize;
-        if rest.len() != 3 * size {
-            return Err(ReadFault::Size(length_place(bytes)));
-        }
+        let states = u16::from_le_bytes([*low, *high]);
+        check_fields(states, *phases, *signals)?;
+        let size = usize::from(states) * usize::from(*phases);
+        check(rest.len() == 3 * size, ReadFault::Size(length_place(bytes)))?;
         let (choices, ranks) = rest.split_at(size);
-        if let Some(fault) = choice_fault(choices, *signals) {
-            return Err(fault);
-        }
+        check_choices(choices, *signals)?;
         Ok(Record {
             states,
             phases: *phases,
@@ -121,7 +106,7 @@ impl<'a> Record<'a> {
         ensures { result ≡ bound_of (parts_of self.now) }
     {
         let mut best: u16 = 0;
-        for place in 0..self.states as u32 * self.phases as u32 {
+        for place in 0..u32::from(self.states) * u32::from(self.phases) {
             best = best.max(self.kept_rank(place as usize));
         }
         best

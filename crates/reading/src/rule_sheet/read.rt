@@ -1,26 +1,19 @@
 ghost use Rattle.std.specs.Prelude.{◌≡◌, is_ok, IfOk, Decides};
-ghost use Rattle.reading.specs.Faults.{told, told_some};
+ghost use Rattle.reading.specs.Faults.{told};
 ghost use Rattle.reading.specs.RuleSheets.{automaton_in, automaton_of, blank, next_state, accepts, forbids, field_fault, rule_fault, Lawful};
 
-use crate::bytes::{has_bit, length_place, put_front, strays};
-use crate::entries::entry_fault;
-use crate::faults::ReadFault;
+use crate::bytes::{fits, has_bit, length_place, put_front};
+use crate::entries::check_entries;
+use crate::faults::{ReadFault, check};
 use crate::rule_sheet::RuleSheet;
 
-/// The first field out of range.
-fn field_fault(states: u8, accepting: u8, start: u8) -> Option<ReadFault>
-    ensures { told_some result ≡ field_fault states accepting start }
+/// The first field out of range is a fault.
+fn check_fields(states: u8, accepting: u8, start: u8) -> Result<(), ReadFault>
+    ensures { told result ≡ field_fault states accepting start }
 {
-    if states < 1 || states > 8 {
-        return Some(ReadFault::Field(0));
-    }
-    if strays(accepting, states as u16) {
-        return Some(ReadFault::Field(1));
-    }
-    if start >= states {
-        return Some(ReadFault::Field(3));
-    }
-    None
+    check(1 <= states && states <= 8, ReadFault::Field(0))?;
+    check(fits(accepting, u16::from(states)), ReadFault::Field(1))?;
+    check(start < states, ReadFault::Field(3))
 }
 
 impl RuleSheet {
@@ -46,18 +39,12 @@ impl RuleSheet {
         let [count, accepting, forbidden, start, rest @ ..] = bytes else {
             return Err(ReadFault::Short(length_place(bytes)));
         };
-        if let Some(fault) = field_fault(*count, *accepting, *start) {
-            return Err(fault);
-        }
-        if rest.len() != 8 * *count as usize {
-            return Err(ReadFault::Size(length_place(bytes)));
-        }
-        if let Some(fault) = entry_fault(rest, *count, 4) {
-            return Err(fault);
-        }
-        if states as u32 * *count as u32 > 256 {
-            return Err(ReadFault::TooLarge);
-        }
+        check_fields(*count, *accepting, *start)?;
+        let size = 8 * usize::from(*count);
+        check(rest.len() == size, ReadFault::Size(length_place(bytes)))?;
+        check_entries(rest, *count, 4)?;
+        let product = u32::from(states) * u32::from(*count);
+        check(product <= 256, ReadFault::TooLarge)?;
         let mut next = [0; 64];
         put_front(&mut next, rest);
         Ok(RuleSheet {
@@ -88,7 +75,7 @@ impl RuleSheet {
         ensures { result ≡ next_state (automaton_of self.now) state label }
     {
         if state < self.states && label < 8 {
-            self.next[8 * state as usize + label as usize]
+            self.next[8 * usize::from(state) + usize::from(label)]
         } else {
             0
         }

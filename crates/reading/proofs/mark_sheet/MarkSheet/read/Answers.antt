@@ -1,47 +1,45 @@
-use Rattle.std.proofs.Common.{◌≡◌, ℕ, List, take, drop, ◌∙◌, arith}
-use Rattle.reading.specs.MarkSheets.{Sets, mark_fault}
-use Rattle.reading.proofs.Answering.{refuses, accepts}
-use Rattle.reading.proofs.MarkLaws.{clear_lawful, lawful_to, strays_first, clashes_next, same_clashes, half_kept, inside_of, apart_of}
+use Rattle.std.proofs.Common.{ℕ, Ok, rules, take, drop, ◌∙◌, sym, arith}
+use Rattle.std.proofs.lemmas.Bool.{eqb-true}
+use Rattle.std.proofs.lemmas.Grind.{common_steps}
+use Rattle.reading.specs.MarkSheets.{mark_fault}
+use Rattle.reading.proofs.Answering.{decided}
+use Rattle.reading.proofs.FirstLaws.{none_unless}
+use Rattle.reading.proofs.MarkLaws.{clear_lawful, lawful_from, lawful_to, same_clashes, half_kept, inside_of, apart_of, sets_with}
 use Rattle.reading.proofs.mark_sheet.MarkSheet.read.Goals as goal
 
-pub returns-in-Some : goal.returns-in-Some
-returns-in-Some c =
+pub returns-in_err-check_strays-clause-lawful : goal.returns-in_err-check_strays-clause-lawful
+returns-in_err-check_strays-clause-lawful c =
     let xs = c.args.bytes.now in
     let n = c.args.states in
-    let e = strays_first n xs c.if-bytes-ne64.false c.in-Some.ensures in
-    record { first = e; value = tt; lawful = refuses (mark_fault n xs) (lawful_to n xs (λ j. (c.type_inv.bytes j).fits)) e }
+    decided _ _ (lawful_from n xs) (lawful_to n xs (λ j. (c.type_inv.bytes j).fits)) (search rules)
 
-pub returns-in-Some-clash_fault : goal.returns-in-Some-clash_fault
-returns-in-Some-clash_fault c =
+pub returns-in_err-check_clashes-clause-lawful : goal.returns-in_err-check_clashes-clause-lawful
+returns-in_err-check_clashes-clause-lawful c =
     let xs = c.args.bytes.now in
     let n = c.args.states in
-    let halves = same_clashes xs _ _ c.split_at.ensures.front c.split_at.ensures.back in
-    let e = clashes_next n xs c.if-bytes-ne64.false c.in_default.ensures (c.in-Some-clash_fault.ensures ∙ halves) in
-    record { first = e; value = tt; lawful = refuses (mark_fault n xs) (lawful_to n xs (λ j. (c.type_inv.bytes j).fits)) e }
+    decided _ _ (lawful_from n xs) (lawful_to n xs (λ j. (c.type_inv.bytes j).fits)) (search rules)
 
 pub invariant_of-result : goal.invariant_of-result
 invariant_of-result c =
     let xs = c.args.bytes.now in
     let n = c.args.states in
     let halves = same_clashes xs _ _ c.split_at.ensures.front c.split_at.ensures.back in
-    let w = clear_lawful n xs (record { long = c.if-bytes-ne64.false; strays = c.in_default.ensures; clashes = c.in_default-clash_fault.ensures ∙ halves }) in
+    let long = eqb-true _ _ (none_unless _ _ (sym c.in_ok-check.ensures)) in
+    let w = clear_lawful n xs (record { long = long; strays = c.in_ok-check_strays.ensures; clashes = c.in_ok-check_clashes.ensures ∙ halves }) in
     let low = half_kept (take 32 xs) _ _ c.put_front.ensures c.split_at.ensures.front c.split_at.ensures.front_len in
-    let high = half_kept (drop 32 xs) _ _ c.put_front-2.ensures c.split_at.ensures.back (omega (arith, c.split_at.ensures.back_len, c.if-bytes-ne64.false)) in
+    let high = half_kept (drop 32 xs) _ _ c.put_front-2.ensures c.split_at.ensures.back (omega (arith, c.split_at.ensures.back_len, long)) in
     record { forbidden_inside = inside_of n _ _ low w.forbidden; goals_inside = inside_of n _ _ high w.goals; apart = apart_of _ _ _ _ low high w.apart }
 
-pub returns : goal.returns
-returns c =
+pub returns-clause-value : goal.returns-clause-value
+returns-clause-value c =
+    let xs = c.args.bytes.now in
+    let long = eqb-true _ _ (none_unless _ _ (sym c.in_ok-check.ensures)) in
+    let low = half_kept (take 32 xs) _ _ c.put_front.ensures c.split_at.ensures.front c.split_at.ensures.front_len in
+    let high = half_kept (drop 32 xs) _ _ c.put_front-2.ensures c.split_at.ensures.back (omega (arith, c.split_at.ensures.back_len, long)) in
+    sets_with c.args.states low high
+
+pub returns-clause-lawful : goal.returns-clause-lawful
+returns-clause-lawful c =
     let xs = c.args.bytes.now in
     let n = c.args.states in
-    let halves = same_clashes xs _ _ c.split_at.ensures.front c.split_at.ensures.back in
-    let e = clashes_next n xs c.if-bytes-ne64.false c.in_default.ensures (c.in_default-clash_fault.ensures ∙ halves) in
-    let low = half_kept (take 32 xs) _ _ c.put_front.ensures c.split_at.ensures.front c.split_at.ensures.front_len in
-    let high = half_kept (drop 32 xs) _ _ c.put_front-2.ensures c.split_at.ensures.back (omega (arith, c.split_at.ensures.back_len, c.if-bytes-ne64.false)) in
-    record {
-      first = e;
-      value = sets_with n low high;
-      lawful = accepts (mark_fault n xs) (λ q. clear_lawful n xs (record { long = c.if-bytes-ne64.false; strays = c.in_default.ensures; clashes = c.in_default-clash_fault.ensures ∙ halves })) e;
-    }
-  where
-    sets_with : (n : ℕ) {a b x y : List ℕ} → a ≡ x → b ≡ y → ◌≡◌ {A = Sets} (record { states = n; forbidden = a; goals = b }) (record { states = n; forbidden = x; goals = y })
-    sets_with n p q = cc
+    decided {A = ℕ} (Ok 0) (mark_fault n xs) (lawful_from n xs) (lawful_to n xs (λ j. (c.type_inv.bytes j).fits)) (grind (arith, common_steps))
