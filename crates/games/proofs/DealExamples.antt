@@ -1,7 +1,8 @@
 -- Examples that the definitions compute.
 use Rattle.std.proofs.Common.{◌≡◌, ℕ, true, false, Some, None, refl}
 use Rattle.games.specs.Sets.{width, has, row}
-use Rattle.games.specs.Deals.{numbers, are_terms, terms_fault, first_gap}
+use Rattle.games.specs.Terms.{are_terms}
+use Rattle.games.specs.Deals.{numbers, terms_fault, first_gap}
 use Rattle.games.specs.declared.deal.Terms.{Terms}
 use Rattle.games.specs.declared.deal.talk.TalkFault.TheVariants.{NotTerms, TooFar}
 

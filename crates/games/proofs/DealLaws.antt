@@ -3,7 +3,8 @@ use Rattle.std.proofs.Common.{◌≡◌, ℕ, ◌<◌, Some, None, Decides, ◌�
 use Rattle.std.proofs.lemmas.Bool.{and_parts, and_from}
 use Rattle.reading.proofs.FirstLaws.{not_some, of_none, none_left, none_right, unless_none, none_unless, below_none, none_below}
 use Rattle.games.specs.Sets.{width}
-use Rattle.games.specs.Deals.{Refusal, numbers, are_terms, AreTerms, gap_at, first_gap, Agree}
+use Rattle.games.specs.Terms.{are_terms, AreTerms}
+use Rattle.games.specs.Deals.{Refusal, numbers, gap_at, first_gap, Agree}
 use Rattle.games.specs.declared.deal.Terms.{Terms}
 use Rattle.games.specs.declared.deal.talk.TalkFault.TheVariants.{TooFar}
 use Rattle.games.proofs.SetLaws.{in_words, from_words, inside_signal, inside_from}

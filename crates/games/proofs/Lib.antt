@@ -1,6 +1,4 @@
 pub mod ListLaws
-pub mod Keys
-pub mod SheetLaws
 mod LiftExamples
 pub mod SetLaws
 pub mod DealLaws

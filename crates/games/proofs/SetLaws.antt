@@ -1,28 +1,34 @@
 -- Laws of sets of signals by phase, over any width.
-use Rattle.std.proofs.Common.{◌≡◌, ℕ, zero, suc, ◌+◌, ◌-◌, ◌*◌, ◌/◌, ◌%◌, ◌^◌, ◌<◌, ◌≤◌, min, Bool, true, false, not, ◌&&◌, eqb, ltb, sym, refl, ap, ◌∙◌, subst, inl, inr, mul-suc, div-one, add-one, arith, pow_mono}
+use Rattle.std.proofs.Common.{◌≡◌, ℕ, zero, suc, ◌+◌, ◌-◌, ◌*◌, ◌/◌, ◌%◌, ◌^◌, ◌<◌, ◌≤◌, min, Bool, true, false, not, ◌&&◌, [], ◌∷◌, eqb, ltb, sym, refl, ap, ◌∙◌, subst, inl, inr, mul-suc, div-one, add-one, arith, pow_mono}
 use native.Mathlib.Nat.{two-pow-succ, pow-succ', div-add-mod}
 use lib.Bits.{bit_and, and_step, and_zero_l}
 use lib.Pow.{mod-mod-pow}
-use Rattle.std.proofs.lemmas.Bool.{eqb-true, eq-eqb, ne_eqb, lt-ltb, le-ltb, cases_lt, ltb-true, and_parts, and_from, and_left, and_right, not-true, not_from_false, both_ways, cases_Bool}
+use Rattle.std.proofs.lemmas.Bool.{eqb-true, eq-eqb, ne_eqb, lt-ltb, le-ltb, cases_lt, ltb-true, and_parts, and_from, not-true, not_from_false, both_ways, cases_Bool}
 use Rattle.std.proofs.lemmas.Nat.{pow_pos, leading_top, div_below, mod_below, shr-shr, field_of, mul-le}
+use Rattle.std.specs.List.{range_with_len, list_all}
+use Rattle.std.proofs.lemmas.List.Folds.{list_all-append}
 use Rattle.reading.specs.Bytes.{bit}
 use Rattle.reading.proofs.Bits.{shift_some, shift_zero, bit_below, no_bit, bit_of_and}
-use Rattle.reading.proofs.FirstLaws.{not_true as false_not_true}
+use Rattle.reading.proofs.FirstLaws.{range_more, not_true as false_not_true}
 use Rattle.reading.specs.Marks.{implies}
 use Rattle.games.specs.Sets.{has, row, after, all_below, filled, described, Described, inside}
 
 -- every index below n passes
 
-pub all_more : (i : ℕ) (f : ℕ → Bool) → all_below i f ≡ true → f i ≡ true → all_below (i + 1) f ≡ true
-all_more i f e h = rw add-one (and_from (f i) (all_below i f) h e)
-
-pub all_fails : (n : ℕ) (f : ℕ → Bool) (k : ℕ) → k < n → f k ≡ false → all_below n f ≡ false
-all_fails zero f k l e = absurd (omega arith)
-all_fails (suc n) f k l e =
-    elim (cases_lt k n) [ inl m ↦ and_right (f n) (all_below n f) (all_fails n f k m e) | inr m ↦ and_left (f n) (all_below n f) (at (omega arith)) ]
+-- the same, as a test of the numbers of a range
+pub all_in_range : (n : ℕ) (f : ℕ → Bool) → list_all f (range_with_len 0 n) ≡ all_below n f
+all_in_range zero f = refl
+all_in_range (suc n) f =
+    ap (list_all f) (rw add-one at (range_more n))
+    ∙ list_all-append f (range_with_len 0 n) (n ∷ [])
+    ∙ ap (λ b. b && (f n && true)) (all_in_range n f)
+    ∙ turned (all_below n f) (f n)
   where
-    at : k ≡ n → f n ≡ false
-    at q = rw q at e
+    turned : (a b : Bool) → (a && (b && true)) ≡ (b && a)
+    turned true true = refl
+    turned true false = refl
+    turned false true = refl
+    turned false false = refl
 
 pub all_at : (n : ℕ) (f : ℕ → Bool) → all_below n f ≡ true → (k : ℕ) → k < n → f k ≡ true
 all_at zero f e k l = absurd (omega arith)

@@ -1,7 +1,8 @@
 -- Talks and deals: when terms are as described, when a reply can be signed, and what is refused.
-use Rattle.std.specs.Prelude.{◌≡◌, ℕ, Bool, ◌&&◌, Some, None, Ok, Err, Option, Result}
+use Rattle.std.specs.Prelude.{◌≡◌, ℕ, Some, None, Ok, Err, Option, Result}
 use Rattle.reading.specs.Firsts.{first_some, first_below, unless}
-use Rattle.games.specs.Sets.{width, described, Described, inside, Inside}
+use Rattle.games.specs.Sets.{width, inside, Inside}
+use Rattle.games.specs.Terms.{are_terms}
 use Rattle.games.specs.declared.deal.Terms.{Terms}
 use Rattle.games.specs.declared.deal.Deal.{Deal}
 use Rattle.games.specs.declared.deal.talk.Talk.{Talk}
@@ -26,19 +27,10 @@ abbrev pub told : {A B : Type 0} → Result A (B × TalkFault) → Option Refusa
 told (Ok x) = None
 told (Err e) = Some (numbers e.1)
 
--- the refusal that an optional answer tells
-abbrev pub told_some : Option TalkFault → Option Refusal
-told_some None = None
-told_some (Some f) = Some (numbers f)
-
--- whether terms are as described for a side's own signals and its partner's
-abbrev pub are_terms : ℕ → ℕ → ℕ → Terms → Bool
-are_terms phases own partner t = described width phases own t.promise && described width phases partner t.reliance
-
--- the same in words of signals
-pub record AreTerms (phases own partner : ℕ) (t : Terms) : Type 0 where
-  pub promised : Described width phases own t.promise
-  pub relied : Described width phases partner t.reliance
+-- the refusal that a test of two sides' terms tells
+abbrev pub told_gap : {A : Type 0} → Result A TalkFault → Option Refusal
+told_gap (Ok x) = None
+told_gap (Err f) = Some (numbers f)
 
 -- terms that are not as described
 abbrev pub terms_fault : ℕ → ℕ → ℕ → Terms → Option Refusal
@@ -71,10 +63,6 @@ pub record Replied (b : Bid) (terms : Terms) (r : Reply) : Type 0 where
 
 -- a deal signed on a reply: the talk's sizes and both sides' terms
 pub record Signed (r : Reply) (d : Deal) : Type 0 where
-  pub phases : d.phases ≡ r.bid.talk.phases
-  pub signals0 : d.signals0 ≡ r.bid.talk.signals0
-  pub signals1 : d.signals1 ≡ r.bid.talk.signals1
-  pub promise0 : d.promise0 ≡ r.bid.terms.promise
-  pub reliance0 : d.reliance0 ≡ r.bid.terms.reliance
-  pub promise1 : d.promise1 ≡ r.terms.promise
-  pub reliance1 : d.reliance1 ≡ r.terms.reliance
+  pub sizes : d.sizes ≡ r.bid.talk.sizes
+  pub first : d.terms.first ≡ r.bid.terms
+  pub second : d.terms.second ≡ r.terms

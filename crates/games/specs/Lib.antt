@@ -5,6 +5,7 @@ pub mod Lifts
 pub mod Layers
 pub mod Runs
 pub mod Sets
+pub mod Terms
 pub mod Deals
 pub mod Products
 pub mod LiftLaws

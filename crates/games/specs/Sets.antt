@@ -45,8 +45,3 @@ inside w inner outer p = bit_and (row w inner p) (row w outer p) == row w inner 
 -- the same in words of signals, in each phase
 abbrev pub Inside : ℕ → ℕ → ℕ → ℕ → Type 0
 Inside w phases inner outer = (p j : ℕ) → p < phases → implies (has w inner p j) (has w outer p j) ≡ true
-
--- side 0 takes the first, any other side the second
-abbrev pub pick : {A : Type 0} → ℕ → A → A → A
-pick zero x y = x
-pick (suc n) x y = y

@@ -6,10 +6,10 @@ use Rattle.games.specs.Listings.{Listing, listed_model}
 
 abbrev pub held : SheetMachine → Listing
 held x = record {
-  states = x.states;
-  own = x.own;
-  partner = x.partner;
-  start = x.start;
+  states = x.frame.states;
+  own = x.frame.own;
+  partner = x.frame.partner;
+  start = x.frame.start;
   labels = vec_items x.labels;
   moves = vec_items x.moves;
 }

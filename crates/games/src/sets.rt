@@ -26,7 +26,7 @@ fn ends(set: u32, phases: u8) -> bool
     ensures { result ≡ ((after width set phases) == 0) }
 {
     // eight phases fill the 32 bits, so the shift needs more
-    (set as u64) >> (WIDTH * phases) == 0
+    u64::from(set) >> (WIDTH * phases) == 0
 }
 
 /// Whether a set is as described for so many phases and signals.
@@ -35,15 +35,7 @@ pub(crate) fn described(set: u32, phases: u8, signals: u8) -> bool
     requires few_signals { signals ≤ 4 }
     ensures { result ≡ described width phases signals set }
 {
-    if !ends(set, phases) {
-        return false;
-    }
-    for p in 0..phases {
-        if !filled(row(set, p), signals) {
-            return false;
-        }
-    }
-    true
+    ends(set, phases) && (0..phases).all(|phase| filled(row(set, phase), signals))
 }
 
 /// Whether every signal that one set has in a phase is in the other too.
@@ -63,11 +55,5 @@ pub(crate) fn has(set: u32, phases: u8, signals: u8, phase: u8, signal: u8) -> b
     ensures value { result ≡ has width set phase signal }
     ensures inside { result ≡ true → (phase < phases) × (signal < signals) }
 {
-    if phase >= phases {
-        return false;
-    }
-    if signal >= signals {
-        return false;
-    }
-    (set >> (WIDTH * phase + signal)) % 2 == 1
+    phase < phases && signal < signals && (set >> (WIDTH * phase + signal)) % 2 == 1
 }

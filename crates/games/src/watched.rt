@@ -32,7 +32,7 @@ impl<M: Machine + Drop> Watched<M> {
     fn in_force(&self) -> RuleSheet
         ensures { automaton_of result ≡ fitting (M.Machine.meaning self.now.below) (automaton_of self.now.rule) }
     {
-        if self.below.states() as u32 * self.rule.states() as u32 <= 256 {
+        if u32::from(self.below.states()) * u32::from(self.rule.states()) <= 256 {
             self.rule
         } else {
             RuleSheet::new()
@@ -60,7 +60,7 @@ impl<M: Machine + Drop> Machine for Watched<M> {
 
     fn states(&self) -> u16 {
         let rule = self.in_force();
-        self.below.states() * rule.states() as u16
+        self.below.states() * u16::from(rule.states())
     }
 
     fn own(&self) -> u8 {
@@ -75,17 +75,17 @@ impl<M: Machine + Drop> Machine for Watched<M> {
         let rule = self.in_force();
         let start = self.below.start();
         let read = rule.next(rule.start(), self.below.label(start));
-        start * rule.states() as u16 + read as u16
+        start * u16::from(rule.states()) + u16::from(read)
     }
 
     fn label(&self, state: u16) -> u8 {
         let rule = self.in_force();
-        self.below.label(state / rule.states() as u16)
+        self.below.label(state / u16::from(rule.states()))
     }
 
     fn may_move(&self, state: u16, own: u8, partner: u8, next: u16) -> bool {
         let rule = self.in_force();
-        let count = rule.states() as u16;
+        let count = u16::from(rule.states());
         if !self
             .below
             .may_move(state / count, own, partner, next / count)
@@ -93,7 +93,7 @@ impl<M: Machine + Drop> Machine for Watched<M> {
             return false;
         }
         let entered = self.below.label(next / count);
-        next % count == rule.next((state % count) as u8, entered) as u16
+        next % count == u16::from(rule.next((state % count) as u8, entered))
     }
 }
 
@@ -106,6 +106,6 @@ impl<M: Machine + Drop> Game for Watched<M> {
 
     fn goal(&self, state: u16) -> bool {
         let rule = self.in_force();
-        state < self.states() && rule.accepting((state % rule.states() as u16) as u8)
+        state < self.states() && rule.accepting((state % u16::from(rule.states())) as u8)
     }
 }

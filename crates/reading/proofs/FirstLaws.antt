@@ -1,6 +1,9 @@
 -- Laws of the first of several answers.
-use Rattle.std.proofs.Common.{◌≡◌, ℕ, zero, suc, ◌+◌, ◌<◌, ◌≤◌, max, Bool, true, false, Some, None, Option, sym, refl, ◌∙◌, inl, inr, add-one, arith}
+use Rattle.std.proofs.Common.{◌≡◌, ℕ, zero, suc, ◌+◌, ◌<◌, ◌≤◌, max, Bool, true, false, Some, None, Option, [], ◌∷◌, ◌++◌, sym, refl, ap, ◌∙◌, inl, inr, add-one, arith}
 use Rattle.std.proofs.lemmas.Bool.{cases_lt, or_left, or_right, or_cases, or_from}
+use Rattle.std.specs.List.{range_with_len}
+use Rattle.std.proofs.lemmas.List.{map-id}
+use Rattle.std.proofs.lemmas.List.FromFn.{map-range_with_len_more}
 use Rattle.reading.specs.Firsts.{first_some, first_below, unless, where_so, some_below, highest_below}
 
 pub not_some : {A : Type 0} {x : A} → ◌≡◌ {A = Option A} (Some x) None → ⊥
@@ -34,10 +37,6 @@ of_right None p e = refl
 pub unless_none : {A : Type 0} (b : Bool) (x : A) → b ≡ true → unless b x ≡ None
 unless_none true x e = refl
 unless_none false x e = absurd (not_true e)
-
-pub unless_some : {A : Type 0} (b : Bool) (x : A) → b ≡ false → unless b x ≡ Some x
-unless_some true x e = absurd (not_true (sym e))
-unless_some false x e = refl
 
 pub none_unless : {A : Type 0} (b : Bool) (x : A) → unless b x ≡ None → b ≡ true
 none_unless true x e = refl
@@ -131,3 +130,7 @@ highest_at (suc (suc n)) f l = elim (cases_lt (highest_below (suc n) f) (f (suc 
   where
     earlier : f (suc n) ≤ highest_below (suc n) f → (k : ℕ) × (k < suc n) × (f k ≡ highest_below (suc n) f) → (k : ℕ) × (k < suc (suc n)) × (f k ≡ max (highest_below (suc n) f) (f (suc n)))
     earlier h w = (w.0, omega (arith, w.1), omega (arith, w.2))
+
+-- a range, by its last index
+pub range_more : (n : ℕ) → range_with_len 0 (n + 1) ≡ range_with_len 0 n ++ n ∷ []
+range_more n = sym (map-id _) ∙ map-range_with_len_more (λ i. i) 0 n n (omega arith) ∙ ap (λ is. is ++ n ∷ []) (map-id _)

@@ -1,8 +1,7 @@
 -- Machine sheets: from the order of faults to the lawful sheet, and back.
-use Rattle.std.proofs.Common.{◌≡◌, ℕ, zero, suc, ◌+◌, ◌-◌, ◌*◌, ◌<◌, ◌≤◌, true, ◌||◌, eqb, ltb, leb, List, length, take, drop, None, Option, sym, refl, ap, ◌∙◌, subst, inl, inr, arith, length-drop, length-take}
+use Rattle.std.proofs.Common.{◌≡◌, ℕ, zero, suc, ◌-◌, ◌*◌, ◌<◌, true, ◌||◌, eqb, ltb, leb, List, length, None, Option, sym, ap, ◌∙◌, inl, inr, arith}
 use Rattle.std.proofs.lemmas.Bool.{cases_eq, ltb-true, leb-true, eqb-true, lt-ltb, le-leb, eq-eqb, or_cases, or_left, or_right, and_parts, and_from}
 use Rattle.reading.specs.Firsts.{unless}
-use Rattle.reading.specs.Bytes.{byte, pair}
 use Rattle.reading.specs.Faults.{Fault, fault, length_place}
 use Rattle.reading.specs.MachineSheets.{key_place, target_place, Sheet, sheet_in, field_fault, head_fault, Headed, Ranged, Listed, Lawful, Before, before, key_at, target_at, move_fault, body_fault, machine_fault}
 use Rattle.reading.proofs.FirstLaws.{none_left, none_right, of_none, of_right, none_unless, unless_none, none_below, below_none}
@@ -35,52 +34,6 @@ fields_to n k m start moves f =
     (of_none _ _ (unless_none _ _ (to_within 1 4 m f.some_partner f.few_partner))
     (of_none _ _ (unless_none _ _ (lt-ltb start n f.starts))
     (unless_none _ _ (le-leb moves 4096 f.few_moves)))))
-
--- a sheet by its parts
-abbrev sheet : ℕ → ℕ → ℕ → ℕ → ℕ → List ℕ → List ℕ → List ℕ → Sheet
-sheet n k m start moves labels keys targets = record {
-  states = n;
-  own = k;
-  partner = m;
-  start = start;
-  moves = moves;
-  labels = labels;
-  keys = keys;
-  targets = targets;
-}
-
--- cutting bytes whose fields and length are right gives the sheet that they hold
-pub cut_whole : (xs : List ℕ) → 8 ≤ length xs
-    → field_fault (pair xs 0) (byte xs 2) (byte xs 3) (pair xs 4) (pair xs 6) ≡ None
-    → length xs ≡ 8 + pair xs 0 + 4 * pair xs 6 → Headed xs (sheet_in xs)
-cut_whole xs l e q =
-    let n = pair xs 0 in
-    let moves = pair xs 6 in
-    let d = length-drop 8 xs in
-    let d2 = length-drop n (drop 8 xs) in
-    record {
-      faultless = of_none _ _ (unless_none _ _ (le-leb 8 (length xs) l)) (of_none _ _ e (unless_none _ _ (eq-eqb _ _ q)));
-      held = refl;
-      shaped = record {
-        ranged = fields_from _ _ _ _ _ e;
-        labelled = omega (arith, length-take n (drop 8 xs), d);
-        keyed = omega (arith, length-take (2 * moves) (drop n (drop 8 xs)), d, d2);
-        targeted = omega (arith, length-drop (2 * moves) (drop n (drop 8 xs)), d, d2);
-      };
-    }
-
--- the same, by the parts as they are cut
-pub cut_parts : (xs : List ℕ) (n start moves : ℕ) (rest labels entries keys targets : List ℕ)
-    → 8 ≤ length xs → n ≡ pair xs 0 → start ≡ pair xs 4 → moves ≡ pair xs 6
-    → None ≡ field_fault n (byte xs 2) (byte xs 3) start moves
-    → rest ≡ drop 8 xs → length rest ≡ n + 4 * moves
-    → labels ≡ take n rest → entries ≡ drop n rest → keys ≡ take (2 * moves) entries → targets ≡ drop (2 * moves) entries
-    → Headed xs (sheet n (byte xs 2) (byte xs 3) start moves labels keys targets)
-cut_parts xs n start moves rest labels entries keys targets l hn hs hm e hr q hl he hk ht =
-    let same : sheet n (byte xs 2) (byte xs 3) start moves labels keys targets ≡ sheet_in xs = cc in
-    let fine : field_fault (pair xs 0) (byte xs 2) (byte xs 3) (pair xs 4) (pair xs 6) ≡ None = cc in
-    let long : length xs ≡ 8 + pair xs 0 + 4 * pair xs 6 = omega (arith, length-drop 8 xs, ap length hr) in
-    subst (λ (s : Sheet). Headed xs s) (sym same) (cut_whole xs l fine long)
 
 module _ (s : Sheet) where
   pub before_from : (i j : ℕ) → before (key_at s i) (target_at s i) (key_at s j) (target_at s j) ≡ true → Before s i j

@@ -1,6 +1,5 @@
 -- Phase tables: from the order of faults to the lawful table, and back.
-use Rattle.std.proofs.Common.{◌≡◌, ℕ, ◌+◌, ◌*◌, ◌≤◌, leb, List, length, drop, None, Option, sym, ap, ◌∙◌, arith, length-drop}
-use Rattle.std.proofs.lemmas.Nat.{mul-le}
+use Rattle.std.proofs.Common.{◌≡◌, ℕ, ◌+◌, ◌≤◌, leb, List, length, drop, None, Option, sym, ap, ◌∙◌, arith, length-drop}
 use Rattle.std.proofs.lemmas.Bool.{leb-true, eqb-true, le-leb, eq-eqb}
 use Rattle.reading.specs.Firsts.{first_below, unless}
 use Rattle.reading.specs.Bytes.{byte, padded}
@@ -25,12 +24,6 @@ fields_from p k0 k1 n =
       signals0 = from_within 1 4 k0 (none_unless _ _ (none_left _ _ e1));
       signals1 = from_within 1 4 k1 (none_unless _ _ (none_right _ _ e1));
     }
-
--- at most 128 entries
-pub few_entries : (p k0 k1 : ℕ) → None ≡ field_fault p k0 k1 → p * k0 * k1 ≤ 128
-few_entries p k0 k1 e =
-    let f = fields_from p k0 k1 e in
-    mul-le (p * k0) k1 32 4 (mul-le p k0 8 4 f.phases.1 f.signals0.1) f.signals1.1
 
 -- past fields and length, the first fault is that of the entries
 pub entries_next : (xs rest : List ℕ) → 3 ≤ length xs → None ≡ field_fault (byte xs 0) (byte xs 1) (byte xs 2)

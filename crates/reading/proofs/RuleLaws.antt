@@ -1,11 +1,11 @@
 -- Rule sheets: from the order of faults to the lawful sheet, and back.
-use Rattle.std.proofs.Common.{◌≡◌, ℕ, ◌+◌, ◌*◌, ◌^◌, ◌<◌, ◌≤◌, leb, List, length, drop, Some, None, Option, sym, ap, ◌∙◌, arith, length-drop}
+use Rattle.std.proofs.Common.{◌≡◌, ℕ, ◌^◌, ◌<◌, ◌≤◌, leb, List, length, drop, None, Option, sym, ap}
 use Rattle.std.proofs.lemmas.Bool.{ltb-true, leb-true, eqb-true, lt-ltb, le-leb, eq-eqb}
-use Rattle.reading.specs.Firsts.{first_some, first_below, unless}
+use Rattle.reading.specs.Firsts.{first_below, unless}
 use Rattle.reading.specs.Bytes.{byte, padded}
 use Rattle.reading.specs.Faults.{Fault, fault, length_place, entry_fault}
 use Rattle.reading.specs.RuleSheets.{Automaton, automaton_in, field_fault, head_fault, rule_fault, Lawful}
-use Rattle.reading.proofs.FirstLaws.{none_left, none_right, of_none, of_left, of_right, none_unless, unless_none}
+use Rattle.reading.proofs.FirstLaws.{none_left, none_right, of_none, none_unless, unless_none}
 use Rattle.reading.proofs.EntryLaws.{entries_below, below_entries}
 use Rattle.reading.proofs.Ranges.{from_within, to_within}
 use Rattle.reading.proofs.Bits.{bit_below, bits_below}
@@ -24,22 +24,6 @@ fields_from q accepting start n =
       accepts = ltb-true _ _ (none_unless _ _ (none_left _ _ e1));
       starts = ltb-true _ _ (none_unless _ _ (none_right _ _ e1));
     }
-
--- a field out of range comes first
-pub fields_first : (n : ℕ) (xs : List ℕ) {x : Fault} → 4 ≤ length xs → Some x ≡ field_fault (byte xs 0) (byte xs 1) (byte xs 3) → Some x ≡ rule_fault n xs
-fields_first n xs l e =
-    sym (of_left (head_fault xs) _ _ (of_right _ _ (unless_none _ _ (le-leb 4 _ l)) ∙ of_left _ _ _ (sym e)))
-
--- what comes after fields and length
-abbrev rows_fault : ℕ → List ℕ → ℕ → Option Fault
-rows_fault n next q = first_some (first_below (length next) (entry_fault next q 4)) (unless (leb (n * q) 256) (fault 7 0))
-
-pub rows_next : (n : ℕ) (xs rest : List ℕ) → 4 ≤ length xs → None ≡ field_fault (byte xs 0) (byte xs 1) (byte xs 3)
-    → rest ≡ drop 4 xs → length rest ≡ 8 * byte xs 0 → rows_fault n rest (byte xs 0) ≡ rule_fault n xs
-rows_next n xs rest l e hr q =
-    let long : length xs ≡ 4 + 8 * byte xs 0 = omega (arith, length-drop 4 xs, ap length hr) in
-    ap (λ ys. rows_fault n ys (byte xs 0)) hr
-    ∙ sym (of_right (head_fault xs) _ (of_none _ _ (unless_none _ _ (le-leb 4 _ l)) (of_none _ _ (sym e) (unless_none _ _ (eq-eqb _ _ long)))))
 
 -- an automaton whose next states are those of the bytes
 abbrev automaton : ℕ → ℕ → ℕ → ℕ → List ℕ → Automaton

@@ -2,7 +2,7 @@
 use Rattle.std.specs.Prelude.{◌≡◌, ℕ, ◌+◌, ◌*◌, ◌<◌, ◌≤◌, cond, ◌&&◌, List, length, drop, replicate, Option, ◌==◌, nat_le, nat_lt}
 use Rattle.reading.specs.declared.phase_table.PhaseTable.{PhaseTable}
 use Rattle.reading.specs.Firsts.{first_some, first_below, unless}
-use Rattle.reading.specs.Bytes.{byte, within, padded}
+use Rattle.reading.specs.Bytes.{byte, padded}
 use Rattle.reading.specs.Sizes.{field_fault}
 use Rattle.reading.specs.Faults.{Fault, fault, length_place, entry_fault}
 

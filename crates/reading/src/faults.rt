@@ -23,8 +23,8 @@ pub enum ReadFault {
     TooLarge,
 }
 
-/// A fault, unless the test holds.
-pub(crate) fn check(test: bool, fault: ReadFault) -> Result<(), ReadFault>
+/// The fault, unless the test holds.
+pub fn check(test: bool, fault: ReadFault) -> Result<(), ReadFault>
     ensures { told result ≡ unless test (numbers fault) }
 {
     if test { Ok(()) } else { Err(fault) }

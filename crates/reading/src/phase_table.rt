@@ -26,13 +26,13 @@ impl PhaseTable {
     pub fn phases(&self) -> u8
         ensures { result ≡ self.now.sizes.phases }
     {
-        self.sizes.phases()
+        self.sizes.phases
     }
 
     /// How many signals a side has; any side but 0 is side 1.
     pub fn signals(&self, side: u8) -> u8
         ensures { result ≡ pick side self.now.sizes.signals.first self.now.sizes.signals.second }
     {
-        self.sizes.signals().own(side)
+        self.sizes.signals.own(side)
     }
 }

@@ -1,5 +1,4 @@
 ghost use Rattle.std.specs.Prelude.{◌≡◌, ◌≤◌, IfOk};
-ghost use Rattle.reading.specs.Sides.{pick};
 ghost use Rattle.reading.specs.Faults.{told};
 ghost use Rattle.reading.specs.Sizes.{field_fault};
 
@@ -9,8 +8,8 @@ use crate::sides::Sides;
 /// How many phases a bay has, and how many signals each side can show.
 #[derive(Clone, Copy, PartialEq, Eq, Debug)]
 pub struct Sizes {
-    phases: u8,
-    signals: Sides<u8>,
+    pub phases: u8,
+    pub signals: Sides<u8>,
     ghost some_phases: { 1 ≤ phases },
     ghost few_phases: { phases ≤ 8 },
     ghost some0: { 1 ≤ signals.first },
@@ -46,19 +45,5 @@ impl Sizes {
             second: 1,
         };
         Sizes { phases: 1, signals }
-    }
-
-    /// How many phases there are.
-    pub fn phases(&self) -> u8
-        ensures { result ≡ self.now.phases }
-    {
-        self.phases
-    }
-
-    /// How many signals each side can show.
-    pub fn signals(&self) -> Sides<u8>
-        ensures { result ≡ self.now.signals }
-    {
-        self.signals
     }
 }

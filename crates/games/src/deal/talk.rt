@@ -1,38 +1,29 @@
 mod faults;
 mod steps;
 
-ghost use Rattle.std.specs.Prelude.{◌≡◌, ◌≤◌, true};
-ghost use Rattle.games.specs.Sets.{width, described};
+ghost use Rattle.std.specs.Prelude.{◌≡◌, true};
+ghost use Rattle.games.specs.Terms.{are_terms};
 
 use crate::deal::Terms;
+use reading::sizes::Sizes;
 
 /// A talk on a deal, open on a phase table's sizes: it awaits side 0's bid. Each step of a talk spends the one before.
 pub struct Talk {
-    phases: u8,
-    signals0: u8,
-    signals1: u8,
-    ghost some_phases: { 1 ≤ phases },
-    ghost few_phases: { phases ≤ 8 },
-    ghost some0: { 1 ≤ signals0 },
-    ghost few0: { signals0 ≤ 4 },
-    ghost some1: { 1 ≤ signals1 },
-    ghost few1: { signals1 ≤ 4 },
+    sizes: Sizes,
 }
 
 /// A talk in which side 0 has bid its terms: it awaits side 1's reply.
 pub struct Bid {
     talk: Talk,
     terms: Terms,
-    ghost promised: { described width talk.phases talk.signals0 terms.promise ≡ true },
-    ghost relied: { described width talk.phases talk.signals1 terms.reliance ≡ true },
+    ghost described: { are_terms talk.sizes.phases talk.sizes.signals.first talk.sizes.signals.second terms ≡ true },
 }
 
 /// A bid that side 1 has replied to with its own terms: it awaits the signing.
 pub struct Reply {
     bid: Bid,
     terms: Terms,
-    ghost promised: { described width bid.talk.phases bid.talk.signals1 terms.promise ≡ true },
-    ghost relied: { described width bid.talk.phases bid.talk.signals0 terms.reliance ≡ true },
+    ghost described: { are_terms bid.talk.sizes.phases bid.talk.sizes.signals.second bid.talk.sizes.signals.first terms ≡ true },
 }
 
 /// Why a step of a talk is refused.

@@ -1,28 +1,15 @@
 ghost use Rattle.std.specs.Prelude.{◌≡◌, ◌*◌, ◌<◌, is_ok, IfOk, Decides, OnOk};
-ghost use Rattle.reading.specs.Faults.{told, told_some};
+ghost use Rattle.reading.specs.Faults.{told};
 ghost use Rattle.games.specs.Machines.{in_range};
 ghost use Rattle.games.specs.Lifts.{lift, rises, sinks, flips, lift_fault, Sizes, Steps};
 ghost use Rattle.games.specs.LiftLaws.{lift_lawful};
 
 use crate::lift::Lift;
 use crate::machine::Machine;
-use reading::faults::ReadFault;
+use reading::faults::{ReadFault, check};
 
 /// Empty on floor 0.
 const START: u16 = 0;
-
-/// The first size out of range.
-fn size_fault(floors: u8, signals: u8) -> Option<ReadFault>
-    ensures { told_some result ≡ lift_fault floors signals }
-{
-    if floors < 2 || floors > 32 {
-        return Some(ReadFault::Field(0));
-    }
-    if signals < 2 || signals > 4 {
-        return Some(ReadFault::Field(1));
-    }
-    None
-}
 
 /// One floor up; an empty lift may also coast up two.
 fn goes_up(state: u16, next: u16) -> bool
@@ -48,9 +35,8 @@ impl Lift {
         ensures sizes { Decides (is_ok result) (Sizes floors signals) }
         ensures steps { OnOk result (Steps floors signals) }
     {
-        if let Some(fault) = size_fault(floors, signals) {
-            return Err(fault);
-        }
+        check(2 <= floors && floors <= 32, ReadFault::Field(0))?;
+        check(2 <= signals && signals <= 4, ReadFault::Field(1))?;
         Ok(Lift { floors, signals })
     }
 
@@ -78,7 +64,7 @@ impl Machine for Lift {
     ghost lawful = { λ x. lift_lawful x.floors x.signals x.some_floors x.few_floors x.some_signals x.few_signals };
 
     fn states(&self) -> u16 {
-        2 * self.floors as u16
+        2 * u16::from(self.floors)
     }
 
     fn own(&self) -> u8 {

@@ -1,23 +1,10 @@
-ghost use Rattle.std.specs.Prelude.{◌≡◌};
-ghost use Rattle.games.specs.Listings.{listed};
 ghost use Rattle.games.specs.SheetMachines.{machine_of};
 ghost use Rattle.std.proofs.Common.{rules};
 
 use crate::machine::Machine;
 use crate::sheet_machine::SheetMachine;
-use reading::machine_sheet::Move;
-
-/// Whether a move is in the list.
-fn lists(moves: &[Move], key: u16, target: u16) -> bool
-    ensures { result ≡ listed moves.now key target }
-{
-    for m in moves {
-        if m.key == key && m.target == target {
-            return true;
-        }
-    }
-    false
-}
+use reading::bytes::byte_at;
+use reading::machine_sheet::{Frame, Move};
 
 impl Machine for SheetMachine {
     ghost meaning = { machine_of };
@@ -25,37 +12,39 @@ impl Machine for SheetMachine {
     ghost lawful = { Prim.search rules };
 
     fn states(&self) -> u16 {
-        self.states
+        self.frame.states
     }
 
     fn own(&self) -> u8 {
-        self.own
+        self.frame.own
     }
 
     fn partner(&self) -> u8 {
-        self.partner
+        self.frame.partner
     }
 
     fn start(&self) -> u16 {
-        self.start
+        self.frame.start
     }
 
     fn label(&self, state: u16) -> u8 {
-        if state < self.states {
-            self.labels[state as usize]
+        if state < self.frame.states {
+            self.labels[usize::from(state)]
         } else {
             0
         }
     }
 
     fn may_move(&self, state: u16, own: u8, partner: u8, next: u16) -> bool {
-        if state >= self.states || next >= self.states {
+        let frame = &self.frame;
+        if state >= frame.states || next >= frame.states {
             return false;
         }
-        if own >= self.own || partner >= self.partner {
+        if own >= frame.own || partner >= frame.partner {
             return false;
         }
-        let key = (state * self.own as u16 + own as u16) * self.partner as u16 + partner as u16;
-        lists(self.moves.as_slice(), key, next)
+        let row = state * u16::from(frame.own) + u16::from(own);
+        let key = row * u16::from(frame.partner) + u16::from(partner);
+        self.moves.contains(&Move { key, target: next })
     }
 }

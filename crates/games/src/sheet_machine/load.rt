@@ -7,7 +7,7 @@ ghost use Rattle.games.specs.SheetMachines.{machine_of};
 
 use crate::sheet_machine::SheetMachine;
 use reading::faults::ReadFault;
-use reading::machine_sheet::{MachineSheet, Move};
+use reading::machine_sheet::{Frame, MachineSheet, Move};
 use std::alloc::{AllocError, Global};
 
 /// Replaces a list of labels, for which there is room.
@@ -17,10 +17,7 @@ fn copy_labels(labels: &mut Vec<u8>, source: &[u8])
     ensures room { vec_capacity labels.old ≤ vec_capacity labels.new }
 {
     labels.clear();
-    match labels.extend_from_slice(source) {
-        Ok(()) => {}
-        Err(_) => unreachable(),
-    }
+    labels.extend_from_slice(source).unwrap();
 }
 
 /// Replaces a list of moves, for which there is room.
@@ -44,11 +41,14 @@ impl SheetMachine {
         labels.push_reserved(0);
         let mut moves = Vec::with_capacity(heap, 4096)?;
         moves.push_reserved(Move { key: 0, target: 0 });
-        Ok(SheetMachine {
+        let frame = Frame {
             states: 1,
             own: 1,
             partner: 1,
             start: 0,
+        };
+        Ok(SheetMachine {
+            frame,
             labels,
             moves,
         })
@@ -62,10 +62,7 @@ impl SheetMachine {
         let sheet = MachineSheet::read(bytes)?;
         copy_labels(&mut self.labels, sheet.labels());
         copy_moves(&mut self.moves, &sheet);
-        self.states = sheet.states;
-        self.own = sheet.own;
-        self.partner = sheet.partner;
-        self.start = sheet.start;
+        self.frame = sheet.frame;
         Ok(())
     }
 }

@@ -8,14 +8,20 @@ use crate::bytes::{fits, has_bit, length_place, put_front};
 use crate::faults::{ReadFault, check};
 use crate::mark_sheet::MarkSheet;
 
+/// Whether the byte at a place has only states of the machine; each half of a sheet begins with state 0.
+fn fits_at(byte: u8, states: u16, j: usize) -> bool
+    ensures { result ≡ nat_lt byte (2 ^ (states - 8 * (j % 32))) }
+{
+    fits(byte, states.saturating_sub(8 * (j % 32) as u16))
+}
+
 /// The first byte with a state out of range is a fault.
 fn check_strays(bytes: &[u8], states: u16) -> Result<(), ReadFault>
     requires { length bytes.now ≡ 64 }
     ensures { told result ≡ first_below (length bytes.now) (stray_fault states bytes.now) }
 {
     for (j, byte) in bytes.iter().enumerate() {
-        let room = states.saturating_sub(8 * (j % 32) as u16);
-        check(fits(*byte, room), ReadFault::Entry(j as u16))?;
+        check(fits_at(*byte, states, j), ReadFault::Entry(j as u16))?;
     }
     Ok(())
 }

@@ -50,8 +50,8 @@ impl PhaseTable {
     pub fn next(&self, phase: u8, first: u8, second: u8) -> u8
         ensures { result ≡ next_phase (table_of self.now) phase first second }
     {
-        let signals = self.sizes.signals();
-        if phase < self.sizes.phases() && first < signals.first && second < signals.second {
+        let Sizes { phases, signals } = self.sizes;
+        if phase < phases && first < signals.first && second < signals.second {
             let row = usize::from(phase) * usize::from(signals.first) + usize::from(first);
             byte_at(
                 &self.entries,

@@ -1,12 +1,12 @@
-use Rattle.reading.proofs.FirstLaws.{not_true}
+use Rattle.std.proofs.Common.{◌∙◌, arith}
+use Rattle.std.proofs.lemmas.Bool.{le-ltb}
 use Rattle.games.specs.Sets.{width}
 use Rattle.games.proofs.SetLaws.{past_phases, past_signals}
 use Rattle.games.proofs.sets.has.Goals as goal
+use Rattle.games.proofs.sets.has.Goals.{then-phase-phases, else-phase-phases}
 
-pub returns-then-phase-phases : goal.returns-then-phase-phases
-returns-then-phase-phases c =
-    record { value = past_phases width _ _ _ _ _ c.requires.described c.if-phase-phases.true; inside = λ z. absurd (not_true z) }
-
-pub returns-then-signal-signals : goal.returns-then-signal-signals
-returns-then-signal-signals c =
-    record { value = past_signals width _ _ _ _ _ c.requires.described c.if-signal-signals.true; inside = λ z. absurd (not_true z) }
+pub returns-else-signal-signals-clause-value : goal.returns-else-signal-signals-clause-value
+returns-else-signal-signals-clause-value c = let x = c.args in elim c.if-phase-phases.branch [
+  | then-phase-phases w ↦ w.t-7-is ∙ le-ltb _ _ (omega arith) ∙ past_signals width x.phases x.signals x.set x.phase x.signal c.requires.described (omega arith)
+  | else-phase-phases w ↦ w.t-7-is ∙ le-ltb _ _ w.if-phase-phases.false ∙ past_phases width x.phases x.signals x.set x.phase x.signal c.requires.described w.if-phase-phases.false
+]

@@ -10,7 +10,7 @@ impl TalkFault {
     {
         match *self {
             TalkFault::NotTerms => 20,
-            TalkFault::TooFar { phase: _, side: _ } => 21,
+            TalkFault::TooFar { .. } => 21,
         }
     }
 
@@ -20,7 +20,7 @@ impl TalkFault {
     {
         match *self {
             TalkFault::NotTerms => 65535,
-            TalkFault::TooFar { phase, side: _ } => phase as u16,
+            TalkFault::TooFar { phase, .. } => u16::from(phase),
         }
     }
 
@@ -30,7 +30,7 @@ impl TalkFault {
     {
         match *self {
             TalkFault::NotTerms => 2,
-            TalkFault::TooFar { phase: _, side } => side,
+            TalkFault::TooFar { side, .. } => side,
         }
     }
 }

@@ -1,71 +1,56 @@
-ghost use Rattle.std.specs.Prelude.{◌≡◌, ◌<◌, ◌≤◌, is_ok, Decides, MatchOption, MatchResult};
-ghost use Rattle.games.specs.Deals.{told, told_some, are_terms, AreTerms, terms_fault, gap_at, first_gap, Agree, Bidden, Replied, Signed};
+ghost use Rattle.std.specs.Prelude.{◌≡◌, ◌<◌, ◌≤◌, Ok, is_ok, Decides, MatchResult};
+ghost use Rattle.games.specs.Terms.{AreTerms};
+ghost use Rattle.games.specs.Deals.{told, told_gap, terms_fault, gap_at, first_gap, Agree, Bidden, Replied, Signed};
 
 use crate::deal::talk::{Bid, Reply, Talk, TalkFault};
 use crate::deal::{Deal, Terms};
-use crate::sets::{described, inside};
+use crate::sets::inside;
 use reading::phase_table::PhaseTable;
-
-/// Whether terms are as described for a side's own signals and its partner's.
-fn are_terms(terms: Terms, phases: u8, own: u8, partner: u8) -> bool
-    requires few_phases { phases ≤ 8 }
-    requires few_own { own ≤ 4 }
-    requires few_partner { partner ≤ 4 }
-    ensures test { result ≡ are_terms phases own partner terms }
-    ensures words { Decides result (AreTerms phases own partner terms) }
-{
-    described(terms.promise, phases, own) && described(terms.reliance, phases, partner)
-}
+use reading::sides::Sides;
 
 /// Who promises too much in a phase, side 0 before side 1.
-fn gap_at(terms0: Terms, terms1: Terms, phase: u8) -> Option<TalkFault>
+fn check_phase(first: &Terms, second: &Terms, phase: u8) -> Result<(), TalkFault>
     requires { phase < 8 }
-    ensures { told_some result ≡ gap_at terms0 terms1 phase }
+    ensures { told_gap result ≡ gap_at first.now second.now phase }
 {
-    if !inside(terms0.promise, terms1.reliance, phase) {
-        return Some(TalkFault::TooFar { phase, side: 0 });
+    if !inside(first.promise, second.reliance, phase) {
+        return Err(TalkFault::TooFar { phase, side: 0 });
     }
-    if !inside(terms1.promise, terms0.reliance, phase) {
-        return Some(TalkFault::TooFar { phase, side: 1 });
+    if !inside(second.promise, first.reliance, phase) {
+        return Err(TalkFault::TooFar { phase, side: 1 });
     }
-    None
+    Ok(())
 }
 
 /// Who promises too much first: the lowest phase, then side 0 before side 1.
-fn first_gap(terms0: Terms, terms1: Terms, phases: u8) -> Option<TalkFault>
+fn check_gaps(first: &Terms, second: &Terms, phases: u8) -> Result<(), TalkFault>
     requires { phases ≤ 8 }
-    ensures first { told_some result ≡ first_gap phases terms0 terms1 }
-    ensures words { MatchOption result (Agree phases terms0 terms1) (λ _. Agree phases terms0 terms1 → ⊥) }
+    ensures first { told_gap result ≡ first_gap phases first.now second.now }
+    ensures words { Decides (is_ok result) (Agree phases first.now second.now) }
 {
-    for p in 0..phases {
-        if let Some(fault) = gap_at(terms0, terms1, p) {
-            return Some(fault);
-        }
+    for phase in 0..phases {
+        check_phase(first, second, phase)?;
     }
-    None
+    Ok(())
 }
 
 impl Talk {
     /// A talk on a table's sizes.
     pub fn open(table: &PhaseTable) -> Talk
-        ensures phases { result.phases ≡ table.now.phases }
-        ensures signals0 { result.signals0 ≡ table.now.signals0 }
-        ensures signals1 { result.signals1 ≡ table.now.signals1 }
+        ensures { result.sizes ≡ table.now.sizes }
     {
         Talk {
-            phases: table.phases(),
-            signals0: table.signals0(),
-            signals1: table.signals1(),
+            sizes: table.sizes(),
         }
     }
 
     /// Side 0 bids its terms; refused, the talk stands as it was.
     pub fn bid(self, terms: Terms) -> Result<Bid, (Talk, TalkFault)>
-        ensures first { told result ≡ terms_fault self.phases self.signals0 self.signals1 terms }
+        ensures first { told result ≡ terms_fault self.sizes.phases self.sizes.signals.first self.sizes.signals.second terms }
         ensures value { MatchResult result (λ b. Bidden self terms b) (λ e. e.0 ≡ self) }
-        ensures words { Decides (is_ok result) (AreTerms self.phases self.signals0 self.signals1 terms) }
+        ensures words { Decides (is_ok result) (AreTerms self.sizes.phases self.sizes.signals.first self.sizes.signals.second terms) }
     {
-        if !are_terms(terms, self.phases, self.signals0, self.signals1) {
+        if !terms.suit(&self.sizes, 0) {
             return Err((self, TalkFault::NotTerms));
         }
         Ok(Bid { talk: self, terms })
@@ -73,27 +58,18 @@ impl Talk {
 
     /// Ends the talk with no deal.
     pub fn close(self) {
-        let Talk {
-            phases: _,
-            signals0: _,
-            signals1: _,
-        } = self;
+        let Talk { sizes: _ } = self;
     }
 }
 
 impl Bid {
     /// Side 1 replies with its own terms; refused, the bid stands as it was.
     pub fn reply(self, terms: Terms) -> Result<Reply, (Bid, TalkFault)>
-        ensures first { told result ≡ terms_fault self.talk.phases self.talk.signals1 self.talk.signals0 terms }
+        ensures first { told result ≡ terms_fault self.talk.sizes.phases self.talk.sizes.signals.second self.talk.sizes.signals.first terms }
         ensures value { MatchResult result (λ b. Replied self terms b) (λ e. e.0 ≡ self) }
-        ensures words { Decides (is_ok result) (AreTerms self.talk.phases self.talk.signals1 self.talk.signals0 terms) }
+        ensures words { Decides (is_ok result) (AreTerms self.talk.sizes.phases self.talk.sizes.signals.second self.talk.sizes.signals.first terms) }
     {
-        if !are_terms(
-            terms,
-            self.talk.phases,
-            self.talk.signals1,
-            self.talk.signals0,
-        ) {
+        if !terms.suit(&self.talk.sizes, 1) {
             return Err((self, TalkFault::NotTerms));
         }
         Ok(Reply { bid: self, terms })
@@ -109,29 +85,18 @@ impl Bid {
 impl Reply {
     /// Signs the two sides' terms; refused, the talk is open again and awaits side 0's bid.
     pub fn sign(self) -> Result<Deal, (Talk, TalkFault)>
-        ensures first { told result ≡ first_gap self.bid.talk.phases self.bid.terms self.terms }
+        ensures first { told result ≡ first_gap self.bid.talk.sizes.phases self.bid.terms self.terms }
         ensures value { MatchResult result (λ d. Signed self d) (λ e. e.0 ≡ self.bid.talk) }
-        ensures words { Decides (is_ok result) (Agree self.bid.talk.phases self.bid.terms self.terms) }
+        ensures words { Decides (is_ok result) (Agree self.bid.talk.sizes.phases self.bid.terms self.terms) }
     {
         let Reply { bid, terms: second } = self;
         let Bid { talk, terms: first } = bid;
-        if let Some(fault) = first_gap(first, second, talk.phases) {
+        if let Err(fault) = check_gaps(&first, &second, talk.sizes.phases) {
             return Err((talk, fault));
         }
-        let Talk {
-            phases,
-            signals0,
-            signals1,
-        } = talk;
-        Ok(Deal {
-            phases,
-            signals0,
-            signals1,
-            promise0: first.promise,
-            reliance0: first.reliance,
-            promise1: second.promise,
-            reliance1: second.reliance,
-        })
+        let Talk { sizes } = talk;
+        let terms = Sides { first, second };
+        Ok(Deal { sizes, terms })
     }
 
     /// Ends the talk with no deal.

@@ -1,15 +1,8 @@
-use Rattle.std.proofs.Common.{arith}
-use Rattle.games.proofs.Keys.{row_small, key_small}
+use Rattle.std.proofs.Common.{ℕ, ◌+◌, ◌*◌, rules, ◌∙◌}
+use Rattle.games.proofs.ListLaws.{listed_any}
 use Rattle.games.proofs.sheet_machine.answers.SheetMachineMachine.may_move.Goals as goal
 
-pub overflow_mul-key-2 : goal.overflow_mul-key-2
-overflow_mul-key-2 c =
-    let x = c.args.self.now in
-    let row = row_small c.args.state c.args.own x.states x.own x.few_states x.few_own c.if-state-self.false c.if-own-self.false in
-    omega (arith, key_small _ c.args.partner x.partner x.few_partner row c.if-partner-self.false)
-
-pub overflow_add-key-2 : goal.overflow_add-key-2
-overflow_add-key-2 c =
-    let x = c.args.self.now in
-    let row = row_small c.args.state c.args.own x.states x.own x.few_states x.few_own c.if-state-self.false c.if-own-self.false in
-    omega (arith, key_small _ c.args.partner x.partner x.few_partner row c.if-partner-self.false)
+pub returns : goal.returns
+returns c =
+    let key : ℕ = (c.args.state * c.from.result + c.from-2.result) * c.from-3.result + c.from-4.result in
+    c.contains.ensures.value ∙ listed_any c.deref.result.now key c.args.next ∙ search rules
