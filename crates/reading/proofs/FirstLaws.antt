@@ -1,8 +1,10 @@
 -- Laws of the first of several answers.
-use Rattle.std.proofs.Common.{◌≡◌, ℕ, zero, suc, ◌+◌, ◌<◌, ◌≤◌, max, Bool, true, false, Some, None, Option, [], ◌∷◌, ◌++◌, sym, refl, ap, ◌∙◌, inl, inr, add-one, arith}
+use Rattle.std.proofs.Common.{◌≡◌, ℕ, zero, suc, ◌+◌, ◌<◌, ◌≤◌, max, Bool, true, false, Some, None, Option, [], ◌∷◌, ◌++◌, List, map, sym, refl, ap, ◌∙◌, inl, inr, add-one, arith}
 use Rattle.std.proofs.lemmas.Bool.{cases_lt, or_left, or_right, or_cases, or_from}
-use Rattle.std.specs.List.{range_with_len}
+use Rattle.std.specs.List.{range_with_len, reduce}
+use Rattle.std.specs.Option.{unwrap_or}
 use Rattle.std.proofs.lemmas.List.{map-id}
+use Rattle.std.proofs.lemmas.List.Sums.{fold-append}
 use Rattle.std.proofs.lemmas.List.FromFn.{map-range_with_len_more}
 use Rattle.reading.specs.Firsts.{first_some, first_below, unless, where_so, some_below, highest_below}
 
@@ -134,3 +136,15 @@ highest_at (suc (suc n)) f l = elim (cases_lt (highest_below (suc n) f) (f (suc 
 -- a range, by its last index
 pub range_more : (n : ℕ) → range_with_len 0 (n + 1) ≡ range_with_len 0 n ++ n ∷ []
 range_more n = sym (map-id _) ∙ map-range_with_len_more (λ i. i) 0 n n (omega arith) ∙ ap (λ is. is ++ n ∷ []) (map-id _)
+
+-- the largest value of f below n, as the largest of a list
+largest_more : (xs : List ℕ) (y : ℕ) → unwrap_or (reduce max (xs ++ y ∷ [])) 0 ≡ max (unwrap_or (reduce max xs) 0) y
+largest_more [] y = omega arith
+largest_more (x ∷ xs) y = fold-append max x xs (y ∷ [])
+
+pub largest_in_range : (n : ℕ) (f : ℕ → ℕ) → unwrap_or (reduce max (map f (range_with_len 0 n))) 0 ≡ highest_below n f
+largest_in_range zero f = refl
+largest_in_range (suc n) f =
+    ap (λ xs. unwrap_or (reduce max xs) 0) (rw add-one at (map-range_with_len_more f 0 n n (omega arith)))
+    ∙ largest_more (map f (range_with_len 0 n)) (f n)
+    ∙ ap (λ m. max m (f n)) (largest_in_range n f)

@@ -1,4 +1,4 @@
-ghost use Rattle.std.specs.Prelude.{◌≡◌, ◌+◌, ◌*◌, ◌^◌, ◌<◌, ◌≤◌, min, ◌++◌, length, drop, nat_lt};
+ghost use Rattle.std.specs.Prelude.{◌≡◌, ◌+◌, ◌*◌, ◌^◌, ◌<◌, ◌≤◌, ◌&&◌, min, ◌++◌, length, drop, nat_lt};
 ghost use Rattle.reading.specs.Bytes.{byte, pair, bit};
 ghost use Rattle.reading.specs.Faults.{length_place};
 
@@ -23,12 +23,11 @@ pub(crate) fn length_place(bytes: &[u8]) -> u16
     u16::try_from(bytes.len()).unwrap_or(u16::MAX)
 }
 
-/// Whether a byte has a bit.
+/// Whether a byte has a bit; there are eight.
 pub(crate) fn has_bit(x: u8, i: u8) -> bool
-    requires { i < 8 }
-    ensures { result ≡ bit x i }
+    ensures { result ≡ (nat_lt i 8 && bit x i) }
 {
-    (x >> i) % 2 == 1
+    i < 8 && (x >> i) % 2 == 1
 }
 
 /// Whether a byte has no bit from `room` up.
@@ -38,7 +37,7 @@ pub(crate) fn fits(x: u8, room: u16) -> bool
     room >= 8 || x >> room == 0
 }
 
-/// Copies bytes to the front of a buffer.
+/// Copies bytes to the front of a buffer of a fixed size: what is read is held without a heap.
 pub(crate) fn put_front(buffer: &mut [u8], part: &[u8])
     requires { length part.now ≤ length buffer.old }
     ensures { buffer.new ≡ part.now ++ drop (length part.now) buffer.old }

@@ -83,7 +83,7 @@ fn two_phases(rt: HostRuntime) -> Result<(), Fail> {
         return Err(Fail::new("refused"));
     };
     assert_eq!(rt;
-        (deal.phases(), deal.signals0(), deal.signals1()),
+        (deal.phases(), deal.signals(0), deal.signals(1)),
         (2, 1, 2)
     );
     assert_eq!(rt;

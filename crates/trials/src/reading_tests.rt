@@ -103,8 +103,9 @@ fn machine_says(rt: HostRuntime) -> Result<(), Fail> {
     let Ok(sheet) = MachineSheet::read(&TOGGLE) else {
         return Err(Fail::new("refused"));
     };
+    let frame = sheet.frame;
     assert_eq!(rt;
-        (sheet.states, sheet.own, sheet.partner, sheet.start),
+        (frame.states, frame.own, frame.partner, frame.start),
         (2, 2, 2, 0)
     );
     assert_eq!(rt; sheet.moves, 8);
@@ -258,13 +259,13 @@ fn phases(rt: HostRuntime) -> Result<(), Fail> {
 fn phase_places(rt: HostRuntime) {
     let mut place = PhaseTable::new();
     assert_eq!(rt;
-        (place.phases(), place.signals0(), place.signals1()),
+        (place.phases(), place.signals(0), place.signals(1)),
         (1, 1, 1)
     );
     assert_eq!(rt; place.next(0, 0, 0), 0);
     assert!(rt; place.read(&PHASES).is_ok());
     assert_eq!(rt;
-        (place.phases(), place.signals0(), place.signals1()),
+        (place.phases(), place.signals(0), place.signals(1)),
         (2, 1, 2)
     );
     assert_eq!(rt; (place.next(0, 0, 0), place.next(0, 0, 1)), (0, 1));

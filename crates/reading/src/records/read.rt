@@ -105,10 +105,9 @@ impl<'a> Record<'a> {
     pub fn bound(&self) -> u16
         ensures { result ≡ bound_of (parts_of self.now) }
     {
-        let mut best: u16 = 0;
-        for place in 0..u32::from(self.states) * u32::from(self.phases) {
-            best = best.max(self.kept_rank(place as usize));
-        }
-        best
+        (0..u32::from(self.states) * u32::from(self.phases))
+            .map(|place| self.kept_rank(place as usize))
+            .max()
+            .unwrap_or(0)
     }
 }

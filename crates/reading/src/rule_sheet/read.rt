@@ -60,14 +60,14 @@ impl RuleSheet {
     pub fn accepting(&self, state: u8) -> bool
         ensures { result ≡ accepts (automaton_of self.now) state }
     {
-        state < 8 && has_bit(self.accepting, state)
+        has_bit(self.accepting, state)
     }
 
     /// Whether a label is forbidden.
     pub fn forbidden(&self, label: u8) -> bool
         ensures { result ≡ forbids (automaton_of self.now) label }
     {
-        label < 8 && has_bit(self.forbidden, label)
+        has_bit(self.forbidden, label)
     }
 
     /// The state after a state and a label; 0 where one of them is out of range.
