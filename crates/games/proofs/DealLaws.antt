@@ -1,8 +1,10 @@
 -- Laws of terms and deals.
-use Rattle.std.proofs.Common.{◌≡◌, ℕ, ◌<◌, Some, None, Decides, ◌∙◌, arith}
+use Rattle.std.proofs.Common.{◌≡◌, ℕ, zero, suc, true, ◌<◌, Some, None, Decides, ◌∙◌, arith}
 use Rattle.std.proofs.lemmas.Bool.{and_parts, and_from}
 use Rattle.reading.proofs.FirstLaws.{not_some, of_none, none_left, none_right, unless_none, none_unless, below_none, none_below}
-use Rattle.games.specs.Sets.{width}
+use Rattle.reading.specs.Sides.{pick}
+use Rattle.games.specs.Sets.{width, has, Described}
+use Rattle.games.specs.declared.deal.Deal.{Deal}
 use Rattle.games.specs.Terms.{are_terms, AreTerms}
 use Rattle.games.specs.Deals.{Refusal, numbers, gap_at, first_gap, Agree}
 use Rattle.games.specs.declared.deal.Terms.{Terms}
@@ -15,6 +17,20 @@ terms_decided phases own partner t = (
   λ e. (let h = and_parts _ _ e in record { promised = in_words width phases own _ h.0; relied = in_words width phases partner _ h.1 }),
   λ d. and_from _ _ (from_words width phases own _ (omega arith) d.promised) (from_words width phases partner _ (omega arith) d.relied),
 )
+
+-- a signal that a deal has is one of its phases and of the side that shows it
+in_range : (phases k set : ℕ) → Described width phases k set → (p j : ℕ) → has width set p j ≡ true → (p < phases) × (j < k)
+in_range phases k set w p j e = (w.ends p j e, w.low p j e)
+
+pub promised_in_range : (d : Deal) (side p j : ℕ) → has width (pick side d.terms.first.promise d.terms.second.promise) p j ≡ true
+    → (p < d.sizes.phases) × (j < pick side d.sizes.signals.first d.sizes.signals.second)
+promised_in_range d zero = in_range _ _ _ ((terms_decided _ _ _ _).0 d.described0).promised
+promised_in_range d (suc n) = in_range _ _ _ ((terms_decided _ _ _ _).0 d.described1).promised
+
+pub relied_in_range : (d : Deal) (side p j : ℕ) → has width (pick side d.terms.first.reliance d.terms.second.reliance) p j ≡ true
+    → (p < d.sizes.phases) × (j < pick side d.sizes.signals.second d.sizes.signals.first)
+relied_in_range d zero = in_range _ _ _ ((terms_decided _ _ _ _).0 d.described0).relied
+relied_in_range d (suc n) = in_range _ _ _ ((terms_decided _ _ _ _).0 d.described1).relied
 
 -- there is no gap exactly if the two sides agree
 pub agree_from : (phases : ℕ) (t0 t1 : Terms) → first_gap phases t0 t1 ≡ None → Agree phases t0 t1

@@ -47,8 +47,7 @@ impl Deal {
         ensures value { result ≡ has width (pick side self.now.terms.first.promise self.now.terms.second.promise) phase signal }
         ensures inside { result ≡ true → (phase < self.now.sizes.phases) × (signal < pick side self.now.sizes.signals.first self.now.sizes.signals.second) }
     {
-        let signals = self.sizes.signals.own(side);
-        has(self.promise(side), self.phases(), signals, phase, signal)
+        has(self.promise(side), phase, signal)
     }
 
     /// Whether a side relies on a signal of its partner in a phase; out of range it does not.
@@ -56,7 +55,6 @@ impl Deal {
         ensures value { result ≡ has width (pick side self.now.terms.first.reliance self.now.terms.second.reliance) phase signal }
         ensures inside { result ≡ true → (phase < self.now.sizes.phases) × (signal < pick side self.now.sizes.signals.second self.now.sizes.signals.first) }
     {
-        let signals = self.sizes.signals.partner(side);
-        has(self.reliance(side), self.phases(), signals, phase, signal)
+        has(self.reliance(side), phase, signal)
     }
 }

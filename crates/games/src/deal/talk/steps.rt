@@ -10,7 +10,6 @@ use reading::sides::Sides;
 
 /// Who promises too much in a phase, side 0 before side 1.
 fn check_phase(first: &Terms, second: &Terms, phase: u8) -> Result<(), TalkFault>
-    requires { phase < 8 }
     ensures { told_gap result ≡ gap_at first.now second.now phase }
 {
     if !inside(first.promise, second.reliance, phase) {
@@ -24,7 +23,6 @@ fn check_phase(first: &Terms, second: &Terms, phase: u8) -> Result<(), TalkFault
 
 /// Who promises too much first: the lowest phase, then side 0 before side 1.
 fn check_gaps(first: &Terms, second: &Terms, phases: u8) -> Result<(), TalkFault>
-    requires { phases ≤ 8 }
     ensures first { told_gap result ≡ first_gap phases first.now second.now }
     ensures words { Decides (is_ok result) (Agree phases first.now second.now) }
 {
