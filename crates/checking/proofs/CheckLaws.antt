@@ -1,10 +1,13 @@
 -- A check finds no fault exactly if the bytes are a ranked controller.
-use Rattle.std.proofs.Common.{◌≡◌, ℕ, zero, suc, ◌<◌, ◌≤◌, true, false, List, Some, None, Err, Decides, Option, sym, refl, ap, ◌∙◌, arith}
+use Rattle.std.proofs.Common.{◌≡◌, ℕ, zero, suc, ◌<◌, ◌≤◌, true, List, Some, None, Ok, is_ok, IfOk, Decides, Option, Result, sym, refl, ap, ◌∙◌, arith}
 use Rattle.std.specs.Option.{option_map}
 use Rattle.std.proofs.lemmas.Bool.{leb-true, le-leb, eqb-true, eq-eqb, and_parts, and_from}
+use Rattle.std.proofs.lemmas.Result.{err_from_is_err_and}
+use Rattle.std.specs.Result.{IsErrAnd}
 use Rattle.reading.specs.Faults.{Fault}
+use Rattle.reading.specs.Firsts.{first_below}
 use Rattle.reading.specs.Records.{Parts, parts_in, bound_of, record_fault}
-use Rattle.reading.proofs.FirstLaws.{not_some, not_true, of_none, of_left, of_right, none_left, none_right, unless_none, none_unless}
+use Rattle.reading.proofs.FirstLaws.{below_some, not_some, not_true, of_none, of_left, of_right, none_left, none_right, unless_none, none_unless}
 use Rattle.reading.proofs.RecordLaws.{lawful_from, lawful_to}
 use Rattle.reading.specs.declared.phase_table.PhaseTable.{PhaseTable}
 use Rattle.games.specs.declared.deal.Deal.{Deal}
@@ -12,11 +15,19 @@ use Rattle.games.specs.Machines.{Model, Marks, Lawful}
 use Rattle.games.specs.Sets.{width, pick}
 use Rattle.games.proofs.SetLaws.{in_words, has_low}
 use Rattle.checking.specs.Arenas.{arena, promised, relied, suits, Suits}
-use Rattle.checking.specs.Controllers.{plan_in, Bound}
-use Rattle.checking.specs.Faults.{Refusal, unread}
+use Rattle.checking.specs.Controllers.{plan_of, plan_in, Bound}
+use Rattle.checking.specs.declared.faults.CheckFault.{CheckFault}
+use Rattle.checking.specs.Faults.{Refusal, numbers, unread, told, refused}
 use Rattle.checking.specs.Checks.{plan_fault, sized, Sized, check_fault, answer, check_answer, Ranked}
 use Rattle.checking.proofs.ControllerLaws.{Fitted, controller_of, of_controller}
 use Rattle.checking.proofs.BoundLaws.{kept_inside, bound_above, bound_is}
+
+-- a loop stops at its first fault
+pub stops_below : {A : Type 0} (f : ℕ → Option Refusal) (k m n : ℕ) (x : CheckFault) (r : Result A CheckFault)
+    → IsErrAnd r (λ y. y ≡ x) → m ≡ n → k < m → first_below k f ≡ None → Some (numbers x) ≡ f k → refused r ≡ first_below n f
+stops_below f k m n x r e h l i j =
+    let p = err_from_is_err_and r e in
+    rw (p.1, p.2) (sym (below_some n f k (numbers x) (omega arith) i (sym j)))
 
 mapped_none : (o : Option Fault) → option_map unread o ≡ None → o ≡ None
 mapped_none (Some f) e = absurd (not_some e)
@@ -96,21 +107,26 @@ module _ (m : Model) (t : PhaseTable) (d : Deal) (side : ℕ) where
         (of_none _ _ (unless_none _ _ (sized_to (parts_in xs) r.sized))
         (of_controller (arena m k t d side) (plan_in xs) (fitted r.suits r.sized) (λ p x e. omega (arith, promised_low d side p x e)) r.controller)))
 
-    -- refused: the bytes are no ranked controller
-    pub refuses : (x : Refusal) → check_fault m k t d side xs ≡ Some x → Decides false (Ranked m k t d side xs)
-    refuses x e = (λ z. absurd (not_true z), λ r. absurd (not_some (sym e ∙ ranked_to r)))
+    -- what a check promises where it refuses
+    pub refuses : (x : CheckFault) (r : Result ℕ CheckFault) → IsErrAnd r (λ y. y ≡ x) → check_fault m k t d side xs ≡ Some (numbers x)
+        → (told r ≡ check_answer m k t d side xs) × Decides (is_ok r) (Ranked m k t d side xs) × IfOk r (Bound (plan_in xs))
+    refuses x r i e =
+        let p = err_from_is_err_and r i in
+        rw (p.1, p.2) (sym (ap (λ o. answer o (bound_of (parts_in xs))) e), (λ z. absurd (not_true z), λ r. absurd (not_some (sym e ∙ ranked_to r))), tt)
 
-    pub tells : (x : Refusal) → check_fault m k t d side xs ≡ Some x → Err x ≡ check_answer m k t d side xs
-    tells x e = sym (ap (λ o. answer o (bound_of (parts_in xs))) e)
-
-    pub bounded : Ranked m k t d side xs → Bound (plan_in xs) (bound_of (parts_in xs))
-    bounded r = bound_is (parts_in xs) m.start 0 r.controller.starts
+    -- and where it finds no fault
+    pub accepts : (b : ℕ) → b ≡ bound_of (parts_in xs) → b < 65536 → check_fault m k t d side xs ≡ None
+        → (Ok b ≡ check_answer m k t d side xs) × Decides true (Ranked m k t d side xs) × Bound (plan_in xs) b
+    accepts b h l e =
+        let r = ranked_from (omega arith) e in
+        rw h (sym (ap (λ o. answer o (bound_of (parts_in xs))) e), (λ z. r, λ z. refl), bound_is (parts_in xs) m.start 0 r.controller.starts)
 
     -- where the reading fails
     pub unreadable : (f : Fault) → suits m t d side ≡ true → record_fault xs ≡ Some f → check_fault m k t d side xs ≡ Some (unread f)
     unreadable f e h = of_right _ _ (unless_none _ _ e) ∙ of_left _ _ (unread f) (ap (option_map unread) h)
 
     -- past reading and sizes, the first fault is the plan's
-    pub plan_next : suits m t d side ≡ true → record_fault xs ≡ None → sized m t (parts_in xs) ≡ true
-        → check_fault m k t d side xs ≡ plan_fault (arena m k t d side) (plan_in xs)
-    plan_next e h z = of_right _ _ (unless_none _ _ e) ∙ of_right _ _ (ap (option_map unread) h) ∙ of_right _ _ (unless_none _ _ z)
+    pub plan_next : (r : Parts) → r ≡ parts_in xs → suits m t d side ≡ true → record_fault xs ≡ None → sized m t r ≡ true
+        → check_fault m k t d side xs ≡ plan_fault (arena m k t d side) (plan_of r)
+    plan_next r v e h z =
+        rw v (of_right _ _ (unless_none _ _ e) ∙ of_right _ _ (ap (option_map unread) h) ∙ of_right _ _ (unless_none _ _ (rw v at z)))

@@ -6,6 +6,7 @@ ghost use Rattle.checking.specs.Controllers.{plan_in, Bound};
 ghost use Rattle.checking.specs.Faults.{told};
 ghost use Rattle.checking.specs.Checks.{sized, check_answer, Ranked};
 
+use crate::check::positions::Candidate;
 use crate::faults::CheckFault;
 use crate::seat::Seat;
 use games::deal::Deal;
@@ -45,8 +46,6 @@ pub fn check<'a, G: Game>(
     if !sized(game, table, &plan) {
         return Err(CheckFault::RecordSizes);
     }
-    if let Some(fault) = seat.plan_fault(&plan) {
-        return Err(fault);
-    }
+    Candidate { seat, plan }.check()?;
     Ok(plan.bound())
 }

@@ -4,6 +4,7 @@ ghost use Rattle.std.specs.Prelude.{◌≡◌};
 ghost use Rattle.checking.specs.declared.faults.CheckFault.TheVariants.{Reading};
 
 use reading::faults::ReadFault;
+use reading::records::Position;
 
 /// Why a record is no ranked controller, with what the fault is about.
 #[derive(Clone, Copy, PartialEq, Eq, Debug)]
@@ -15,46 +16,31 @@ pub enum CheckFault {
     /// Sizes of the record and of game or table differ.
     RecordSizes,
     /// Only one of choice and rank is absent.
-    HalfKept {
-        state: u16,
-        phase: u8,
-    },
+    HalfKept(Position),
     /// The start is not kept in phase 0.
     StartAbsent {
         state: u16,
     },
     /// A kept state is forbidden.
-    Forbidden {
-        state: u16,
-        phase: u8,
-    },
+    Forbidden(Position),
     /// The choice is not promised.
-    NotPromised {
-        state: u16,
-        phase: u8,
-    },
+    NotPromised(Position),
     /// The rank is 0 elsewhere than at a goal, or a goal's is not.
-    GoalRank {
-        state: u16,
-        phase: u8,
-    },
+    GoalRank(Position),
     /// Under a partner signal relied on there is no next state.
     NoNext {
-        state: u16,
-        phase: u8,
+        at: Position,
         partner: u8,
     },
     /// A next position is not kept.
     NextAbsent {
-        state: u16,
-        phase: u8,
+        at: Position,
         partner: u8,
         next: u16,
     },
     /// A next rank is not lower.
     NotLower {
-        state: u16,
-        phase: u8,
+        at: Position,
         partner: u8,
         next: u16,
     },

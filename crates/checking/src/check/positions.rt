@@ -3,7 +3,7 @@ ghost use Rattle.reading.specs.Firsts.{first_below};
 ghost use Rattle.reading.specs.Records.{parts_of};
 ghost use Rattle.checking.specs.Arenas.{playing};
 ghost use Rattle.checking.specs.Controllers.{plan_of};
-ghost use Rattle.checking.specs.Faults.{told_some};
+ghost use Rattle.checking.specs.Faults.{refused};
 ghost use Rattle.checking.specs.Checks.{keeps, next_fault, partner_fault, position_fault, positions_fault, plan_fault};
 
 use crate::faults::CheckFault;
@@ -11,158 +11,125 @@ use crate::seat::Seat;
 use games::machine::{Game, Machine};
 use reading::records::{NO_CHOICE, NO_RANK, Position, Record};
 
-/// Whether a record keeps a position: not if choice and rank are both absent.
-fn keeps(plan: &Record<'_>, state: u16, phase: u8) -> bool
-    ensures { result ≡ keeps (plan_of (parts_of plan.now)) state phase }
-{
-    !(plan.choice(Position { state, phase }) == NO_CHOICE && plan.rank(Position { state, phase }) == NO_RANK)
+/// A plan put forward for a seat.
+#[derive_where(Clone, Copy)]
+pub(crate) struct Candidate<'a, G: Machine> {
+    pub(crate) seat: Seat<'a, G>,
+    pub(crate) plan: Record<'a>,
 }
 
-impl<G: Game> Seat<'_, G> {
-    /// What is wrong at a next state.
-    fn next_fault(
-        &self,
-        plan: &Record<'_>,
-        state: u16,
-        phase: u8,
-        partner: u8,
-        next: u16,
-    ) -> Option<CheckFault>
-        ensures { told_some result ≡ next_fault (playing G.Machine.meaning G.Game.marks self.now) (plan_of (parts_of plan.now)) state phase partner next }
+impl<G: Game> Candidate<'_, G> {
+    /// Whether the plan keeps a position: not if choice and rank are both absent.
+    fn keeps(&self, at: Position) -> bool
+        ensures { result ≡ keeps (plan_of (parts_of self.now.plan)) at.state at.phase }
     {
-        let own = plan.choice(Position { state, phase });
-        if !self.game.may_move(state, own, partner, next) {
-            return None;
+        !(self.plan.choice(at) == NO_CHOICE && self.plan.rank(at) == NO_RANK)
+    }
+
+    /// What is wrong at a next state.
+    fn check_next(&self, at: Position, partner: u8, next: u16) -> Result<(), CheckFault>
+        ensures { refused result ≡ next_fault (playing G.Machine.meaning G.Game.marks self.now.seat) (plan_of (parts_of self.now.plan)) at.state at.phase partner next }
+    {
+        let own = self.plan.choice(at);
+        if !self.seat.game.may_move(at.state, own, partner, next) {
+            return Ok(());
         }
-        let follow = self.follow(phase, own, partner);
-        if !keeps(plan, next, follow) {
-            return Some(CheckFault::NextAbsent {
-                state,
-                phase,
-                partner,
-                next,
-            });
+        let phase = self.seat.follow(at.phase, own, partner);
+        let then = Position { state: next, phase };
+        if !self.keeps(then) {
+            return Err(CheckFault::NextAbsent { at, partner, next });
         }
-        if self.game.goal(state) || plan.rank(Position { state: next, phase: follow }) < plan.rank(Position { state, phase }) {
-            return None;
+        if !self.seat.game.goal(at.state) && self.plan.rank(then) >= self.plan.rank(at) {
+            return Err(CheckFault::NotLower { at, partner, next });
         }
-        Some(CheckFault::NotLower {
-            state,
-            phase,
-            partner,
-            next,
-        })
+        Ok(())
     }
 
     /// The first fault at the next states under a partner signal.
-    fn nexts_fault(
-        &self,
-        plan: &Record<'_>,
-        state: u16,
-        phase: u8,
-        partner: u8,
-    ) -> Option<CheckFault>
-        ensures { told_some result ≡ first_below (G.Machine.meaning self.now.game.now).states (next_fault (playing G.Machine.meaning G.Game.marks self.now) (plan_of (parts_of plan.now)) state phase partner) }
+    fn check_nexts(&self, at: Position, partner: u8) -> Result<(), CheckFault>
+        ensures { refused result ≡ first_below (G.Machine.meaning self.now.seat.game.now).states (next_fault (playing G.Machine.meaning G.Game.marks self.now.seat) (plan_of (parts_of self.now.plan)) at.state at.phase partner) }
     {
-        for next in 0..self.game.states() {
-            if let Some(fault) = self.next_fault(plan, state, phase, partner, next) {
-                return Some(fault);
-            }
+        for next in 0..self.seat.game.states() {
+            self.check_next(at, partner, next)?;
         }
-        None
+        Ok(())
     }
 
     /// The first fault under a partner signal, if it is relied on.
-    fn partner_fault(
-        &self,
-        plan: &Record<'_>,
-        state: u16,
-        phase: u8,
-        partner: u8,
-    ) -> Option<CheckFault>
-        ensures { told_some result ≡ partner_fault (playing G.Machine.meaning G.Game.marks self.now) (plan_of (parts_of plan.now)) state phase partner }
+    fn check_partner(&self, at: Position, partner: u8) -> Result<(), CheckFault>
+        ensures { refused result ≡ partner_fault (playing G.Machine.meaning G.Game.marks self.now.seat) (plan_of (parts_of self.now.plan)) at.state at.phase partner }
     {
-        if !self.relied(phase, partner) {
-            return None;
+        if !self.seat.relied(at.phase, partner) {
+            return Ok(());
         }
-        if !self.has_next(state, plan.choice(Position { state, phase }), partner) {
-            return Some(CheckFault::NoNext {
-                state,
-                phase,
-                partner,
-            });
+        if !self.seat.has_next(at.state, self.plan.choice(at), partner) {
+            return Err(CheckFault::NoNext { at, partner });
         }
-        self.nexts_fault(plan, state, phase, partner)
+        self.check_nexts(at, partner)
     }
 
     /// The first fault under the partner signals.
-    fn partners_fault(&self, plan: &Record<'_>, state: u16, phase: u8) -> Option<CheckFault>
-        ensures { told_some result ≡ first_below (G.Machine.meaning self.now.game.now).partner (partner_fault (playing G.Machine.meaning G.Game.marks self.now) (plan_of (parts_of plan.now)) state phase) }
+    fn check_partners(&self, at: Position) -> Result<(), CheckFault>
+        ensures { refused result ≡ first_below (G.Machine.meaning self.now.seat.game.now).partner (partner_fault (playing G.Machine.meaning G.Game.marks self.now.seat) (plan_of (parts_of self.now.plan)) at.state at.phase) }
     {
-        for partner in 0..self.game.partner() {
-            if let Some(fault) = self.partner_fault(plan, state, phase, partner) {
-                return Some(fault);
-            }
+        for partner in 0..self.seat.game.partner() {
+            self.check_partner(at, partner)?;
         }
-        None
+        Ok(())
     }
 
     /// The first fault at a position.
-    fn position_fault(&self, plan: &Record<'_>, state: u16, phase: u8) -> Option<CheckFault>
-        ensures { told_some result ≡ position_fault (playing G.Machine.meaning G.Game.marks self.now) (plan_of (parts_of plan.now)) state phase }
+    fn check_position(&self, at: Position) -> Result<(), CheckFault>
+        ensures { refused result ≡ position_fault (playing G.Machine.meaning G.Game.marks self.now.seat) (plan_of (parts_of self.now.plan)) at.state at.phase }
     {
-        let choice = plan.choice(Position { state, phase });
-        let rank = plan.rank(Position { state, phase });
+        let choice = self.plan.choice(at);
+        let rank = self.plan.rank(at);
         if (choice == NO_CHOICE) != (rank == NO_RANK) {
-            return Some(CheckFault::HalfKept { state, phase });
+            return Err(CheckFault::HalfKept(at));
         }
         if choice == NO_CHOICE {
-            return None;
+            return Ok(());
         }
-        if self.game.forbidden(state) {
-            return Some(CheckFault::Forbidden { state, phase });
+        if self.seat.game.forbidden(at.state) {
+            return Err(CheckFault::Forbidden(at));
         }
-        if !self.promised(phase, choice) {
-            return Some(CheckFault::NotPromised { state, phase });
+        if !self.seat.promised(at.phase, choice) {
+            return Err(CheckFault::NotPromised(at));
         }
-        if self.game.goal(state) != (rank == 0) {
-            return Some(CheckFault::GoalRank { state, phase });
+        if self.seat.game.goal(at.state) != (rank == 0) {
+            return Err(CheckFault::GoalRank(at));
         }
-        self.partners_fault(plan, state, phase)
+        self.check_partners(at)
     }
 
     /// The first fault in the phases of a state.
-    fn phases_fault(&self, plan: &Record<'_>, state: u16) -> Option<CheckFault>
-        ensures { told_some result ≡ first_below self.now.table.now.phases (position_fault (playing G.Machine.meaning G.Game.marks self.now) (plan_of (parts_of plan.now)) state) }
+    fn check_phases(&self, state: u16) -> Result<(), CheckFault>
+        ensures { refused result ≡ first_below self.now.seat.table.now.phases (position_fault (playing G.Machine.meaning G.Game.marks self.now.seat) (plan_of (parts_of self.now.plan)) state) }
     {
-        for phase in 0..self.table.phases() {
-            if let Some(fault) = self.position_fault(plan, state, phase) {
-                return Some(fault);
-            }
+        for phase in 0..self.seat.table.phases() {
+            self.check_position(Position { state, phase })?;
         }
-        None
+        Ok(())
     }
 
     /// The first fault, state by state.
-    fn positions_fault(&self, plan: &Record<'_>) -> Option<CheckFault>
-        ensures { told_some result ≡ positions_fault (playing G.Machine.meaning G.Game.marks self.now) (plan_of (parts_of plan.now)) }
+    fn check_positions(&self) -> Result<(), CheckFault>
+        ensures { refused result ≡ positions_fault (playing G.Machine.meaning G.Game.marks self.now.seat) (plan_of (parts_of self.now.plan)) }
     {
-        for state in 0..self.game.states() {
-            if let Some(fault) = self.phases_fault(plan, state) {
-                return Some(fault);
-            }
+        for state in 0..self.seat.game.states() {
+            self.check_phases(state)?;
         }
-        None
+        Ok(())
     }
 
-    /// The first fault of a plan: at the start, then position by position.
-    pub(crate) fn plan_fault(&self, plan: &Record<'_>) -> Option<CheckFault>
-        ensures { told_some result ≡ plan_fault (playing G.Machine.meaning G.Game.marks self.now) (plan_of (parts_of plan.now)) }
+    /// The first fault: at the start, then position by position.
+    pub(crate) fn check(&self) -> Result<(), CheckFault>
+        ensures { refused result ≡ plan_fault (playing G.Machine.meaning G.Game.marks self.now.seat) (plan_of (parts_of self.now.plan)) }
     {
-        let state = self.game.start();
-        if !keeps(plan, state, 0) {
-            return Some(CheckFault::StartAbsent { state });
+        let state = self.seat.game.start();
+        if !self.keeps(Position { state, phase: 0 }) {
+            return Err(CheckFault::StartAbsent { state });
         }
-        self.positions_fault(plan)
+        self.check_positions()
     }
 }

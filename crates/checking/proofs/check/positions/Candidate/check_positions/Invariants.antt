@@ -4,7 +4,7 @@ use Rattle.reading.specs.Records.{parts_of}
 use Rattle.checking.specs.Arenas.{playing}
 use Rattle.checking.specs.Controllers.{plan_of}
 use Rattle.checking.specs.Checks.{position_fault}
-use Rattle.checking.proofs.seat.Seat.positions_fault.Given as goal
+use Rattle.checking.proofs.check.positions.Candidate.check_positions.Given as goal
 
 abbrev pub invariant-loop-state : goal.invariant-loop-state
-invariant-loop-state g l = first_below l.state (λ s. first_below l.self.table.now.phases (position_fault (playing g.G.Machine.meaning g.G.Game.marks l.self) (plan_of (parts_of l.plan)) s)) ≡ None
+invariant-loop-state g l = first_below l.state (λ s. first_below l.self.seat.table.now.phases (position_fault (playing g.G.Machine.meaning g.G.Game.marks l.self.seat) (plan_of (parts_of l.self.plan)) s)) ≡ None
