@@ -22,12 +22,13 @@ use Rattle.checking.specs.Checks.{plan_fault, sized, Sized, check_fault, answer,
 use Rattle.checking.proofs.ControllerLaws.{Fitted, controller_of, of_controller}
 use Rattle.checking.proofs.BoundLaws.{kept_inside, bound_above, bound_is}
 
--- a loop stops at its first fault
+-- a loop to m stops at its first fault
+pub first_at : (f : ℕ → Option Refusal) (k m n : ℕ) (x : Refusal) → m ≡ n → k < m → first_below k f ≡ None → Some x ≡ f k → Some x ≡ first_below n f
+first_at f k m n x h l i j = sym (below_some n f k x (omega arith) i (sym j))
+
 pub stops_below : {A : Type 0} (f : ℕ → Option Refusal) (k m n : ℕ) (x : CheckFault) (r : Result A CheckFault)
     → IsErrAnd r (λ y. y ≡ x) → m ≡ n → k < m → first_below k f ≡ None → Some (numbers x) ≡ f k → refused r ≡ first_below n f
-stops_below f k m n x r e h l i j =
-    let p = err_from_is_err_and r e in
-    rw (p.1, p.2) (sym (below_some n f k (numbers x) (omega arith) i (sym j)))
+stops_below f k m n x r e h l i j = let p = err_from_is_err_and r e in rw (p.1, p.2) (first_at f k m n (numbers x) h l i j)
 
 mapped_none : (o : Option Fault) → option_map unread o ≡ None → o ≡ None
 mapped_none (Some f) e = absurd (not_some e)

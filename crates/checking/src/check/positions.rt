@@ -1,10 +1,9 @@
 ghost use Rattle.std.specs.Prelude.{◌≡◌};
-ghost use Rattle.reading.specs.Firsts.{first_below};
 ghost use Rattle.reading.specs.Records.{parts_of};
 ghost use Rattle.checking.specs.Arenas.{playing};
 ghost use Rattle.checking.specs.Controllers.{plan_of};
 ghost use Rattle.checking.specs.Faults.{refused};
-ghost use Rattle.checking.specs.Checks.{keeps, next_fault, partner_fault, position_fault, positions_fault, plan_fault};
+ghost use Rattle.checking.specs.Checks.{keeps, next_fault, partner_fault, position_fault, plan_fault};
 
 use crate::faults::CheckFault;
 use crate::seat::Seat;
@@ -45,16 +44,6 @@ impl<G: Game> Candidate<'_, G> {
         Ok(())
     }
 
-    /// The first fault at the next states under a partner signal.
-    fn check_nexts(&self, at: Position, partner: u8) -> Result<(), CheckFault>
-        ensures { refused result ≡ first_below (G.Machine.meaning self.now.seat.game.now).states (next_fault (playing G.Machine.meaning G.Game.marks self.now.seat) (plan_of (parts_of self.now.plan)) at.state at.phase partner) }
-    {
-        for next in 0..self.seat.game.states() {
-            self.check_next(at, partner, next)?;
-        }
-        Ok(())
-    }
-
     /// The first fault under a partner signal, if it is relied on.
     fn check_partner(&self, at: Position, partner: u8) -> Result<(), CheckFault>
         ensures { refused result ≡ partner_fault (playing G.Machine.meaning G.Game.marks self.now.seat) (plan_of (parts_of self.now.plan)) at.state at.phase partner }
@@ -65,15 +54,8 @@ impl<G: Game> Candidate<'_, G> {
         if !self.seat.has_next(at.state, self.plan.choice(at), partner) {
             return Err(CheckFault::NoNext { at, partner });
         }
-        self.check_nexts(at, partner)
-    }
-
-    /// The first fault under the partner signals.
-    fn check_partners(&self, at: Position) -> Result<(), CheckFault>
-        ensures { refused result ≡ first_below (G.Machine.meaning self.now.seat.game.now).partner (partner_fault (playing G.Machine.meaning G.Game.marks self.now.seat) (plan_of (parts_of self.now.plan)) at.state at.phase) }
-    {
-        for partner in 0..self.seat.game.partner() {
-            self.check_partner(at, partner)?;
+        for next in 0..self.seat.game.states() {
+            self.check_next(at, partner, next)?;
         }
         Ok(())
     }
@@ -99,25 +81,8 @@ impl<G: Game> Candidate<'_, G> {
         if self.seat.game.goal(at.state) != (rank == 0) {
             return Err(CheckFault::GoalRank(at));
         }
-        self.check_partners(at)
-    }
-
-    /// The first fault in the phases of a state.
-    fn check_phases(&self, state: u16) -> Result<(), CheckFault>
-        ensures { refused result ≡ first_below self.now.seat.table.now.phases (position_fault (playing G.Machine.meaning G.Game.marks self.now.seat) (plan_of (parts_of self.now.plan)) state) }
-    {
-        for phase in 0..self.seat.table.phases() {
-            self.check_position(Position { state, phase })?;
-        }
-        Ok(())
-    }
-
-    /// The first fault, state by state.
-    fn check_positions(&self) -> Result<(), CheckFault>
-        ensures { refused result ≡ positions_fault (playing G.Machine.meaning G.Game.marks self.now.seat) (plan_of (parts_of self.now.plan)) }
-    {
-        for state in 0..self.seat.game.states() {
-            self.check_phases(state)?;
+        for partner in 0..self.seat.game.partner() {
+            self.check_partner(at, partner)?;
         }
         Ok(())
     }
@@ -130,6 +95,11 @@ impl<G: Game> Candidate<'_, G> {
         if !self.keeps(Position { state, phase: 0 }) {
             return Err(CheckFault::StartAbsent { state });
         }
-        self.check_positions()
+        for state in 0..self.seat.game.states() {
+            for phase in 0..self.seat.table.phases() {
+                self.check_position(Position { state, phase })?;
+            }
+        }
+        Ok(())
     }
 }

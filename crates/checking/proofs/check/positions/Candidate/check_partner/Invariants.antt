@@ -4,7 +4,7 @@ use Rattle.reading.specs.Records.{parts_of}
 use Rattle.checking.specs.Arenas.{playing}
 use Rattle.checking.specs.Controllers.{plan_of}
 use Rattle.checking.specs.Checks.{next_fault}
-use Rattle.checking.proofs.check.positions.Candidate.check_nexts.Given as goal
+use Rattle.checking.proofs.check.positions.Candidate.check_partner.Given as goal
 
 abbrev pub invariant-loop-next : goal.invariant-loop-next
 invariant-loop-next g l = first_below l.next (next_fault (playing g.G.Machine.meaning g.G.Game.marks l.self.seat) (plan_of (parts_of l.self.plan)) l.at.state l.at.phase l.partner) ≡ None

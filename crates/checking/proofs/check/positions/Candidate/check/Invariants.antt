@@ -4,7 +4,10 @@ use Rattle.reading.specs.Records.{parts_of}
 use Rattle.checking.specs.Arenas.{playing}
 use Rattle.checking.specs.Controllers.{plan_of}
 use Rattle.checking.specs.Checks.{position_fault}
-use Rattle.checking.proofs.check.positions.Candidate.check_positions.Given as goal
+use Rattle.checking.proofs.check.positions.Candidate.check.Given as goal
 
 abbrev pub invariant-loop-state : goal.invariant-loop-state
 invariant-loop-state g l = first_below l.state (λ s. first_below l.self.seat.table.now.phases (position_fault (playing g.G.Machine.meaning g.G.Game.marks l.self.seat) (plan_of (parts_of l.self.plan)) s)) ≡ None
+
+abbrev pub invariant-loop-phase : goal.invariant-loop-phase
+invariant-loop-phase g l = (first_below l.state (λ s. first_below l.self.seat.table.now.phases (position_fault (playing g.G.Machine.meaning g.G.Game.marks l.self.seat) (plan_of (parts_of l.self.plan)) s)) ≡ None) × (first_below l.phase (position_fault (playing g.G.Machine.meaning g.G.Game.marks l.self.seat) (plan_of (parts_of l.self.plan)) l.state) ≡ None)

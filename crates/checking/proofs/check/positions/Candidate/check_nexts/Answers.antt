@@ -1,6 +1,0 @@
-use Rattle.checking.proofs.CheckLaws.{stops_below}
-use Rattle.checking.proofs.check.positions.Candidate.check_nexts.Goals as goal
-
-pub returns-in_err-check_next : goal.returns-in_err-check_next
-returns-in_err-check_next g c =
-    stops_below _ _ _ _ _ _ c.from_residual.ensures.1 c.states-next-end.ensures c.loop-next-test.true c.loop-next.invariant c.in_err-check_next.ensures
