@@ -2,19 +2,24 @@
 use Rattle.std.specs.Prelude.{◌≡◌, ℕ, Bool, true, false, not, ◌&&◌, ◌||◌, List, Some, None, Ok, Err, Option, Result, ◌==◌, nat_lt}
 use Rattle.std.specs.Option.{option_map}
 use Rattle.reading.specs.Firsts.{first_some, first_below, unless, where_so, some_below}
-use Rattle.reading.specs.Records.{Parts, parts_in, kept, bound_of, record_fault, Lawful}
+use Rattle.reading.specs.Records.{Parts, parts_of, parts_in, kept, bound_of, record_fault, Lawful}
 use Rattle.reading.specs.declared.phase_table.PhaseTable.{PhaseTable}
 use Rattle.reading.specs.declared.records.Position.{Position}
 use Rattle.games.specs.declared.deal.Deal.{Deal}
 use Rattle.games.specs.Machines.{Model, Marks}
 use Rattle.checking.specs.declared.faults.CheckFault.TheVariants.{Sizes, RecordSizes, HalfKept, StartAbsent, Forbidden, NotPromised, GoalRank, NoNext, NextAbsent, NotLower}
+use Rattle.checking.specs.declared.check.candidate.Candidate.{Candidate}
 use Rattle.checking.specs.Arenas.{Arena, arena, suits, Suits}
-use Rattle.checking.specs.Controllers.{Plan, plan_in, Controller}
+use Rattle.checking.specs.Controllers.{Plan, plan_of, plan_in, Controller}
 use Rattle.checking.specs.Faults.{Refusal, numbers, unread}
 
 -- a state and a phase as one value
 abbrev pub at : ℕ → ℕ → Position
 at s p = record { state = s; phase = p }
+
+-- the plan that a candidate puts forward
+abbrev pub put : {G : Type 0} → Candidate G → Plan
+put x = plan_of (parts_of x.plan)
 
 -- both or neither
 abbrev pub agree : Bool → Bool → Bool

@@ -1,25 +1,17 @@
-mod positions;
+mod candidate;
 
 ghost use Rattle.std.specs.Prelude.{◌≡◌, is_ok, IfOk, Decides};
-ghost use Rattle.reading.specs.Records.{parts_of};
 ghost use Rattle.checking.specs.Controllers.{plan_in, Bound};
 ghost use Rattle.checking.specs.Faults.{told};
-ghost use Rattle.checking.specs.Checks.{sized, check_answer, Ranked};
+ghost use Rattle.checking.specs.Checks.{check_answer, Ranked};
 
-use crate::check::positions::Candidate;
+use crate::check::candidate::Candidate;
 use crate::faults::CheckFault;
 use crate::seat::Seat;
 use games::deal::Deal;
 use games::machine::{Game, Machine};
 use reading::phase_table::PhaseTable;
 use reading::records::Record;
-
-/// Whether a record is of the sizes of game and table.
-fn sized<G: Machine>(game: &G, table: &PhaseTable, plan: &Record<'_>) -> bool
-    ensures { result ≡ sized (G.Machine.meaning game.now) table.now (parts_of plan.now) }
-{
-    plan.states == game.states() && plan.phases == table.phases() && plan.signals == game.own()
-}
 
 /// The bound of the ranked controller that bytes hold for a side, or their first fault.
 pub fn check<'a, G: Game>(
@@ -43,9 +35,10 @@ pub fn check<'a, G: Game>(
         return Err(CheckFault::Sizes);
     }
     let plan = Record::read(bytes)?;
-    if !sized(game, table, &plan) {
+    let candidate = Candidate { seat, plan };
+    if !candidate.sized() {
         return Err(CheckFault::RecordSizes);
     }
-    Candidate { seat, plan }.check()?;
+    candidate.check()?;
     Ok(plan.bound())
 }

@@ -1,9 +1,8 @@
 ghost use Rattle.std.specs.Prelude.{◌≡◌};
 ghost use Rattle.reading.specs.Records.{parts_of};
 ghost use Rattle.checking.specs.Arenas.{playing};
-ghost use Rattle.checking.specs.Controllers.{plan_of};
 ghost use Rattle.checking.specs.Faults.{refused};
-ghost use Rattle.checking.specs.Checks.{keeps, next_fault, partner_fault, position_fault, plan_fault};
+ghost use Rattle.checking.specs.Checks.{put, sized, keeps, next_fault, partner_fault, position_fault, plan_fault};
 
 use crate::faults::CheckFault;
 use crate::seat::Seat;
@@ -18,16 +17,26 @@ pub(crate) struct Candidate<'a, G: Machine> {
 }
 
 impl<G: Game> Candidate<'_, G> {
+    /// Whether the plan is of the sizes of game and table.
+    pub(crate) fn sized(&self) -> bool
+        ensures { result ≡ sized (G.Machine.meaning self.now.seat.game.now) self.now.seat.table.now (parts_of self.now.plan) }
+    {
+        let (seat, plan) = (&self.seat, &self.plan);
+        plan.states == seat.game.states()
+            && plan.phases == seat.table.phases()
+            && plan.signals == seat.game.own()
+    }
+
     /// Whether the plan keeps a position: not if choice and rank are both absent.
     fn keeps(&self, at: Position) -> bool
-        ensures { result ≡ keeps (plan_of (parts_of self.now.plan)) at.state at.phase }
+        ensures { result ≡ keeps (put self.now) at.state at.phase }
     {
         !(self.plan.choice(at) == NO_CHOICE && self.plan.rank(at) == NO_RANK)
     }
 
     /// What is wrong at a next state.
     fn check_next(&self, at: Position, partner: u8, next: u16) -> Result<(), CheckFault>
-        ensures { refused result ≡ next_fault (playing G.Machine.meaning G.Game.marks self.now.seat) (plan_of (parts_of self.now.plan)) at.state at.phase partner next }
+        ensures { refused result ≡ next_fault (playing G.Machine.meaning G.Game.marks self.now.seat) (put self.now) at.state at.phase partner next }
     {
         let own = self.plan.choice(at);
         if !self.seat.game.may_move(at.state, own, partner, next) {
@@ -46,7 +55,7 @@ impl<G: Game> Candidate<'_, G> {
 
     /// The first fault under a partner signal, if it is relied on.
     fn check_partner(&self, at: Position, partner: u8) -> Result<(), CheckFault>
-        ensures { refused result ≡ partner_fault (playing G.Machine.meaning G.Game.marks self.now.seat) (plan_of (parts_of self.now.plan)) at.state at.phase partner }
+        ensures { refused result ≡ partner_fault (playing G.Machine.meaning G.Game.marks self.now.seat) (put self.now) at.state at.phase partner }
     {
         if !self.seat.relied(at.phase, partner) {
             return Ok(());
@@ -62,7 +71,7 @@ impl<G: Game> Candidate<'_, G> {
 
     /// The first fault at a position.
     fn check_position(&self, at: Position) -> Result<(), CheckFault>
-        ensures { refused result ≡ position_fault (playing G.Machine.meaning G.Game.marks self.now.seat) (plan_of (parts_of self.now.plan)) at.state at.phase }
+        ensures { refused result ≡ position_fault (playing G.Machine.meaning G.Game.marks self.now.seat) (put self.now) at.state at.phase }
     {
         let choice = self.plan.choice(at);
         let rank = self.plan.rank(at);
@@ -89,7 +98,7 @@ impl<G: Game> Candidate<'_, G> {
 
     /// The first fault: at the start, then position by position.
     pub(crate) fn check(&self) -> Result<(), CheckFault>
-        ensures { refused result ≡ plan_fault (playing G.Machine.meaning G.Game.marks self.now.seat) (plan_of (parts_of self.now.plan)) }
+        ensures { refused result ≡ plan_fault (playing G.Machine.meaning G.Game.marks self.now.seat) (put self.now) }
     {
         let state = self.seat.game.start();
         if !self.keeps(Position { state, phase: 0 }) {
