@@ -1,10 +1,14 @@
 mod numbers;
 
-ghost use Rattle.std.specs.Prelude.{◌≡◌};
+ghost use Rattle.std.specs.Prelude.{◌≡◌, ◌++◌, Some, codes, decimal};
 ghost use Rattle.checking.specs.declared.faults.CheckFault.TheVariants.{Reading};
+ghost use Rattle.checking.specs.Faults.{numbers};
+ghost use Rattle.checking.specs.Solutions.{solve_number};
 
 use reading::faults::ReadFault;
 use reading::records::Position;
+use std::error::Error;
+use std::fmt;
 
 /// Why a record is no ranked controller, with what the fault is about.
 #[derive(Clone, Copy, PartialEq, Eq, Debug)]
@@ -54,6 +58,16 @@ impl From<ReadFault> for CheckFault {
     }
 }
 
+impl fmt::Display for CheckFault {
+    ghost output = { λ x. Some (codes "refused " ++ decimal (numbers x).number) };
+
+    fn fmt<W: fmt::Write>(&self, f: &mut fmt::Formatter<W>) -> fmt::Result {
+        write!(f, "refused {}", self.number())
+    }
+}
+
+impl Error for CheckFault {}
+
 /// Why there is no solved record.
 #[derive(Clone, Copy, PartialEq, Eq, Debug)]
 pub enum SolveFault {
@@ -64,3 +78,13 @@ pub enum SolveFault {
     /// There is no ranked controller.
     NoController,
 }
+
+impl fmt::Display for SolveFault {
+    ghost output = { λ x. Some (codes "refused " ++ decimal (solve_number x)) };
+
+    fn fmt<W: fmt::Write>(&self, f: &mut fmt::Formatter<W>) -> fmt::Result {
+        write!(f, "refused {}", self.number())
+    }
+}
+
+impl Error for SolveFault {}
