@@ -1,5 +1,6 @@
 -- The order of the faults of a check, and what makes a record a ranked controller.
-use Rattle.std.specs.Prelude.{◌≡◌, ℕ, Bool, true, false, not, ◌&&◌, ◌||◌, List, Some, None, Ok, Err, Option, Result, ◌==◌, nat_lt}
+use Rattle.std.specs.Prelude.{◌≡◌, ℕ, Bool, not, ◌&&◌, ◌||◌, List, Some, None, Ok, Err, Option, Result, ◌==◌, nat_lt}
+use Rattle.std.specs.Bool.{beq}
 use Rattle.std.specs.Option.{option_map}
 use Rattle.reading.specs.Firsts.{first_some, first_below, unless, where_so, some_below}
 use Rattle.reading.specs.Records.{Parts, parts_of, parts_in, kept, bound_of, record_fault, Lawful}
@@ -21,18 +22,13 @@ at s p = record { state = s; phase = p }
 abbrev pub put : {G : Type 0} → Candidate G → Plan
 put x = plan_of (parts_of x.plan)
 
--- both or neither
-abbrev pub agree : Bool → Bool → Bool
-agree true b = b
-agree false b = not b
-
 -- whether a position is kept: not if choice and rank are both absent
 abbrev pub keeps : Plan → ℕ → ℕ → Bool
 keeps c s p = kept (c.choice s p) (c.rank s p)
 
 -- whether choice and rank are both there or both absent
 abbrev pub whole : Plan → ℕ → ℕ → Bool
-whole c s p = agree (c.choice s p == 255) (c.rank s p == 65535)
+whole c s p = beq (c.choice s p == 255) (c.rank s p == 65535)
 
 -- at a next state t: its position is not kept, or its rank is not lower and the state is no goal
 abbrev pub next_fault : Arena → Plan → ℕ → ℕ → ℕ → ℕ → Option Refusal
@@ -56,7 +52,7 @@ position_fault a c s p =
     (where_so (keeps c s p)
     (first_some (unless (not (a.forbidden s)) (numbers (Forbidden (at s p))))
     (first_some (unless (a.promised p (c.choice s p)) (numbers (NotPromised (at s p))))
-    (first_some (unless (agree (a.goal s) (c.rank s p == 0)) (numbers (GoalRank (at s p))))
+    (first_some (unless (beq (a.goal s) (c.rank s p == 0)) (numbers (GoalRank (at s p))))
     (first_below a.partner (partner_fault a c s p))))))
 
 -- position by position, as s × P + p ascends
