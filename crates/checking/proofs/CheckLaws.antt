@@ -1,5 +1,5 @@
 -- A check finds no fault exactly if the bytes are a ranked controller.
-use Rattle.std.proofs.Common.{◌≡◌, ℕ, ◌<◌, ◌≤◌, true, zero, suc, List, Some, None, Ok, is_ok, IfOk, Decides, Option, Result, sym, refl, arith}
+use Rattle.std.proofs.Common.{◌≡◌, ℕ, ◌<◌, ◌≤◌, true, zero, suc, List, Some, None, is_ok, Decides, Option, Result, sym, refl, arith}
 use Rattle.std.specs.Result.{IsErrAnd}
 use Rattle.std.proofs.lemmas.Result.{err_from_is_err_and}
 use Rattle.std.proofs.lemmas.Bool.Decides.{nat_tests}
@@ -16,8 +16,8 @@ use Rattle.games.proofs.SetLaws.{in_words, has_low}
 use Rattle.checking.specs.Arenas.{arena, promised, relied, suits, Suits}
 use Rattle.checking.specs.Controllers.{plan_of, plan_in, Bound}
 use Rattle.checking.specs.declared.faults.CheckFault.{CheckFault}
-use Rattle.checking.specs.Faults.{Refusal, numbers, unread, told, refused}
-use Rattle.checking.specs.Checks.{plan_fault, sized, Sized, check_fault, check_answer, Ranked}
+use Rattle.checking.specs.Faults.{Refusal, numbers, unread, refused}
+use Rattle.checking.specs.Checks.{plan_fault, sized, Sized, check_fault, Ranked}
 use Rattle.checking.proofs.ControllerLaws.{Fitted, controller_of, of_controller}
 use Rattle.checking.proofs.BoundLaws.{kept_inside, bound_above, bound_is}
 
@@ -88,19 +88,13 @@ module _ (m : Model) (t : PhaseTable) (d : Deal) (side : ℕ) where
         let f = of_controller (arena m k t d side) (plan_in xs) (fitted r.suits r.sized) (λ p x e. omega (arith, promised_low d side p x e)) r.controller in
         grind (arith, nat_tests)
 
-    -- what a check promises where it refuses
-    pub refuses : (x : CheckFault) (r : Result ℕ CheckFault) → IsErrAnd r (λ y. y ≡ x) → check_fault m k t d side xs ≡ Some (numbers x)
-        → (told r ≡ check_answer m k t d side xs) × Decides (is_ok r) (Ranked m k t d side xs) × IfOk r (Bound (plan_in xs))
-    refuses x r i e =
-        let p = err_from_is_err_and r i in
-        rw (p.1, p.2, e) (refl, (λ z. absurd (cc), λ r. absurd (let n = ranked_to r in cc)), tt)
+    -- refused: the bytes are no ranked controller
+    pub refuses : (x : CheckFault) (r : Result ℕ CheckFault) → IsErrAnd r (λ y. y ≡ x) → check_fault m k t d side xs ≡ Some (numbers x) → Decides (is_ok r) (Ranked m k t d side xs)
+    refuses x r i e = let p = err_from_is_err_and r i in rw p.1 (λ z. absurd (cc), λ r. absurd (let n = ranked_to r in cc))
 
-    -- and where it finds no fault
-    pub accepts : (b : ℕ) → b ≡ bound_of (parts_in xs) → b < 65536 → check_fault m k t d side xs ≡ None
-        → (Ok b ≡ check_answer m k t d side xs) × Decides true (Ranked m k t d side xs) × Bound (plan_in xs) b
-    accepts b h l e =
-        let r = ranked_from (omega arith) e in
-        rw (h, e) (refl, (λ z. r, λ z. refl), bound_is (parts_in xs) m.start 0 r.controller.starts)
+    -- no fault: they are one, and this is its bound
+    pub accepts : (b : ℕ) → b ≡ bound_of (parts_in xs) → b < 65536 → check_fault m k t d side xs ≡ None → Ranked m k t d side xs × Bound (plan_in xs) b
+    accepts b h l e = let r = ranked_from (omega arith) e in rw h (r, bound_is (parts_in xs) m.start 0 r.controller.starts)
 
     -- where the reading fails
     pub unreadable : (f : Fault) → suits m t d side ≡ true → record_fault xs ≡ Some f → check_fault m k t d side xs ≡ Some (unread f)
