@@ -14,10 +14,10 @@ use reading::phase_table::PhaseTable;
 use reading::records::Record;
 
 /// The bound of the ranked controller that bytes hold for a side, or their first fault.
-pub fn check<'a, G: Game>(
-    game: &'a G,
-    table: &'a PhaseTable,
-    deal: &'a Deal,
+pub fn check<G: Game>(
+    game: &G,
+    table: &PhaseTable,
+    deal: &Deal,
     side: u8,
     bytes: &[u8],
 ) -> Result<u16, CheckFault>
