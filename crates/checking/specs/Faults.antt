@@ -1,5 +1,7 @@
 -- The faults of checking: number and values.
-use Rattle.std.specs.Prelude.{ℕ, Some, None, Ok, Err, Option, Result}
+use Rattle.std.specs.Prelude.{ℕ, Some, None, Option, Result}
+use Rattle.std.specs.Option.{option_map}
+use Rattle.std.specs.Result.{result_map_both, result_err}
 use Rattle.reading.specs.Faults.{Fault}
 use Rattle.reading.specs.Faults.{numbers as read_numbers}
 use Rattle.checking.specs.declared.faults.CheckFault.{CheckFault}
@@ -42,10 +44,8 @@ numbers (NotLower at b t) = refusal 19 at.state at.phase b t
 
 -- what an answer tells: the bound, or the refusal
 abbrev pub told : Result ℕ CheckFault → Result ℕ Refusal
-told (Ok b) = Ok b
-told (Err f) = Err (numbers f)
+told = result_map_both (λ b. b) numbers
 
 -- the refusal in an answer, none where it has a value
 abbrev pub refused : {A : Type 0} → Result A CheckFault → Option Refusal
-refused (Ok x) = None
-refused (Err f) = Some (numbers f)
+refused r = option_map numbers (result_err r)

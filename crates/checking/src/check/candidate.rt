@@ -34,7 +34,7 @@ impl<G: Game> Candidate<'_, G> {
         !(self.plan.choice(at) == NO_CHOICE && self.plan.rank(at) == NO_RANK)
     }
 
-    /// What is wrong at a next state.
+    /// Checks a next state.
     fn check_next(&self, at: Position, partner: u8, next: u16) -> Result<(), CheckFault>
         ensures { refused result ≡ next_fault (playing G.Machine.meaning G.Game.marks self.now.seat) (put self.now) at.state at.phase partner next }
     {
@@ -53,7 +53,7 @@ impl<G: Game> Candidate<'_, G> {
         Ok(())
     }
 
-    /// The first fault under a partner signal, if it is relied on.
+    /// Checks under a partner signal, if it is relied on, next state by next state.
     fn check_partner(&self, at: Position, partner: u8) -> Result<(), CheckFault>
         ensures { refused result ≡ partner_fault (playing G.Machine.meaning G.Game.marks self.now.seat) (put self.now) at.state at.phase partner }
     {
@@ -69,7 +69,7 @@ impl<G: Game> Candidate<'_, G> {
         Ok(())
     }
 
-    /// The first fault at a position.
+    /// Checks a position, and there partner signal by partner signal.
     fn check_position(&self, at: Position) -> Result<(), CheckFault>
         ensures { refused result ≡ position_fault (playing G.Machine.meaning G.Game.marks self.now.seat) (put self.now) at.state at.phase }
     {
@@ -96,7 +96,7 @@ impl<G: Game> Candidate<'_, G> {
         Ok(())
     }
 
-    /// The first fault: at the start, then position by position.
+    /// Checks the start, then position by position: a fault is the first.
     pub(crate) fn check(&self) -> Result<(), CheckFault>
         ensures { refused result ≡ plan_fault (playing G.Machine.meaning G.Game.marks self.now.seat) (put self.now) }
     {

@@ -1,6 +1,6 @@
 ghost use Rattle.std.specs.Prelude.{◌≡◌};
-ghost use Rattle.std.specs.Option.{option_map_or};
-ghost use Rattle.reading.specs.Faults.{told_some as told_read};
+ghost use Rattle.std.specs.Option.{option_map, option_map_or};
+ghost use Rattle.reading.specs.Faults.{numbers as read_numbers};
 ghost use Rattle.checking.specs.Faults.{numbers, none};
 ghost use Rattle.checking.specs.Solutions.{solve_number};
 
@@ -33,7 +33,7 @@ impl CheckFault {
 
     /// The fault of reading, if it is one.
     pub fn reading(&self) -> Option<ReadFault>
-        ensures { told_read result ≡ (numbers self.now).reading }
+        ensures { option_map read_numbers result ≡ (numbers self.now).reading }
     {
         match *self {
             CheckFault::Reading(fault) => Some(fault),
