@@ -30,11 +30,11 @@ pub stops_below : {A : Type 0} (f : ℕ → Option Refusal) (k m n : ℕ) (x : C
 stops_below f k m n x r e h l i j = let p = err_from_is_err_and r e in rw (p.1, p.2) (first_at f k m n (numbers x) h l i j)
 
 -- a deal names signals of each side alone
-pub relied_low : (d : Deal) (side p b : ℕ) → relied d side p b ≡ true → b < pick side d.signals1 d.signals0
+relied_low : (d : Deal) (side p b : ℕ) → relied d side p b ≡ true → b < pick side d.signals1 d.signals0
 relied_low d zero p b e = (in_words width d.phases d.signals1 d.reliance0 d.relied0).low p b e
 relied_low d (suc n) p b e = (in_words width d.phases d.signals0 d.reliance1 d.relied1).low p b e
 
-pub promised_low : (d : Deal) (side p x : ℕ) → promised d side p x ≡ true → x < 4
+promised_low : (d : Deal) (side p x : ℕ) → promised d side p x ≡ true → x < 4
 promised_low d side p x e = has_low width (pick side d.promise0 d.promise1) p x e
 
 module _ (m : Model) (t : PhaseTable) (d : Deal) (side : ℕ) where
