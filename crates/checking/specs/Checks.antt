@@ -1,20 +1,26 @@
 -- The order of the faults of a check, and what makes a record a ranked controller.
-use Rattle.std.specs.Prelude.{◌≡◌, ℕ, Bool, true, false, not, ◌&&◌, ◌||◌, List, Some, None, Ok, Err, Option, Result, ◌==◌, nat_lt}
+use Rattle.std.specs.Prelude.{◌≡◌, ℕ, Bool, not, ◌&&◌, ◌||◌, List, Some, None, Ok, Err, Option, Result, ◌==◌, nat_lt}
+use Rattle.std.specs.Bool.{beq}
 use Rattle.std.specs.Option.{option_map}
 use Rattle.reading.specs.Firsts.{first_some, first_below, unless, where_so, some_below}
-use Rattle.reading.specs.Records.{Parts, parts_in, kept, bound_of, record_fault, Lawful}
+use Rattle.reading.specs.Records.{Parts, parts_of, parts_in, kept, bound_of, record_fault, Lawful}
 use Rattle.reading.specs.declared.phase_table.PhaseTable.{PhaseTable}
+use Rattle.reading.specs.declared.records.Position.{Position}
 use Rattle.games.specs.declared.deal.Deal.{Deal}
 use Rattle.games.specs.Machines.{Model, Marks}
 use Rattle.checking.specs.declared.faults.CheckFault.TheVariants.{Sizes, RecordSizes, HalfKept, StartAbsent, Forbidden, NotPromised, GoalRank, NoNext, NextAbsent, NotLower}
+use Rattle.checking.specs.declared.check.candidate.Candidate.{Candidate}
 use Rattle.checking.specs.Arenas.{Arena, arena, suits, Suits}
-use Rattle.checking.specs.Controllers.{Plan, plan_in, Controller}
+use Rattle.checking.specs.Controllers.{Plan, plan_of, plan_in, Controller}
 use Rattle.checking.specs.Faults.{Refusal, numbers, unread}
 
--- both or neither
-abbrev pub agree : Bool → Bool → Bool
-agree true b = b
-agree false b = not b
+-- a state and a phase as one value
+abbrev pub at : ℕ → ℕ → Position
+at s p = record { state = s; phase = p }
+
+-- the plan that a candidate puts forward
+abbrev pub put : {G : Type 0} → Candidate G → Plan
+put x = plan_of (parts_of x.plan)
 
 -- whether a position is kept: not if choice and rank are both absent
 abbrev pub keeps : Plan → ℕ → ℕ → Bool
@@ -22,31 +28,31 @@ keeps c s p = kept (c.choice s p) (c.rank s p)
 
 -- whether choice and rank are both there or both absent
 abbrev pub whole : Plan → ℕ → ℕ → Bool
-whole c s p = agree (c.choice s p == 255) (c.rank s p == 65535)
+whole c s p = beq (c.choice s p == 255) (c.rank s p == 65535)
 
 -- at a next state t: its position is not kept, or its rank is not lower and the state is no goal
 abbrev pub next_fault : Arena → Plan → ℕ → ℕ → ℕ → ℕ → Option Refusal
 next_fault a c s p b t =
     where_so (a.move s (c.choice s p) b t)
-    (first_some (unless (keeps c t (a.follow p (c.choice s p) b)) (numbers (NextAbsent s p b t)))
-    (unless (a.goal s || nat_lt (c.rank t (a.follow p (c.choice s p) b)) (c.rank s p)) (numbers (NotLower s p b t))))
+    (first_some (unless (keeps c t (a.follow p (c.choice s p) b)) (numbers (NextAbsent (at s p) b t)))
+    (unless (a.goal s || nat_lt (c.rank t (a.follow p (c.choice s p) b)) (c.rank s p)) (numbers (NotLower (at s p) b t))))
 
 -- under a partner signal b that is relied on: there is no next state, then next state by next state
 abbrev pub partner_fault : Arena → Plan → ℕ → ℕ → ℕ → Option Refusal
 partner_fault a c s p b =
     where_so (a.relied p b)
-    (first_some (unless (some_below a.states (a.move s (c.choice s p) b)) (numbers (NoNext s p b)))
+    (first_some (unless (some_below a.states (a.move s (c.choice s p) b)) (numbers (NoNext (at s p) b)))
     (first_below a.states (next_fault a c s p b)))
 
 -- at the position of state s in phase p: only one of choice and rank is absent; if it is kept, the state is forbidden, the choice is
 -- not promised, the rank is 0 elsewhere than at a goal or a goal's is not; then partner signal by partner signal
 abbrev pub position_fault : Arena → Plan → ℕ → ℕ → Option Refusal
 position_fault a c s p =
-    first_some (unless (whole c s p) (numbers (HalfKept s p)))
+    first_some (unless (whole c s p) (numbers (HalfKept (at s p))))
     (where_so (keeps c s p)
-    (first_some (unless (not (a.forbidden s)) (numbers (Forbidden s p)))
-    (first_some (unless (a.promised p (c.choice s p)) (numbers (NotPromised s p)))
-    (first_some (unless (agree (a.goal s) (c.rank s p == 0)) (numbers (GoalRank s p)))
+    (first_some (unless (not (a.forbidden s)) (numbers (Forbidden (at s p))))
+    (first_some (unless (a.promised p (c.choice s p)) (numbers (NotPromised (at s p))))
+    (first_some (unless (beq (a.goal s) (c.rank s p == 0)) (numbers (GoalRank (at s p))))
     (first_below a.partner (partner_fault a c s p))))))
 
 -- position by position, as s × P + p ascends

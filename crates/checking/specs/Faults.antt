@@ -1,5 +1,7 @@
 -- The faults of checking: number and values.
-use Rattle.std.specs.Prelude.{ℕ, Some, None, Ok, Err, Option, Result}
+use Rattle.std.specs.Prelude.{ℕ, Some, None, Option, Result}
+use Rattle.std.specs.Option.{option_map}
+use Rattle.std.specs.Result.{result_map_both, result_err}
 use Rattle.reading.specs.Faults.{Fault}
 use Rattle.reading.specs.Faults.{numbers as read_numbers}
 use Rattle.checking.specs.declared.faults.CheckFault.{CheckFault}
@@ -31,21 +33,19 @@ abbrev pub numbers : CheckFault → Refusal
 numbers (Reading f) = unread (read_numbers f)
 numbers Sizes = refusal 10 none none none none
 numbers RecordSizes = refusal 11 none none none none
-numbers (HalfKept s p) = refusal 12 s p none none
+numbers (HalfKept at) = refusal 12 at.state at.phase none none
 numbers (StartAbsent s) = refusal 13 s 0 none none
-numbers (Forbidden s p) = refusal 14 s p none none
-numbers (NotPromised s p) = refusal 15 s p none none
-numbers (GoalRank s p) = refusal 16 s p none none
-numbers (NoNext s p b) = refusal 17 s p b none
-numbers (NextAbsent s p b t) = refusal 18 s p b t
-numbers (NotLower s p b t) = refusal 19 s p b t
+numbers (Forbidden at) = refusal 14 at.state at.phase none none
+numbers (NotPromised at) = refusal 15 at.state at.phase none none
+numbers (GoalRank at) = refusal 16 at.state at.phase none none
+numbers (NoNext at b) = refusal 17 at.state at.phase b none
+numbers (NextAbsent at b t) = refusal 18 at.state at.phase b t
+numbers (NotLower at b t) = refusal 19 at.state at.phase b t
 
 -- what an answer tells: the bound, or the refusal
 abbrev pub told : Result ℕ CheckFault → Result ℕ Refusal
-told (Ok b) = Ok b
-told (Err f) = Err (numbers f)
+told = result_map_both (λ b. b) numbers
 
--- the refusal that an optional answer tells
-abbrev pub told_some : Option CheckFault → Option Refusal
-told_some None = None
-told_some (Some f) = Some (numbers f)
+-- the refusal in an answer, none where it has a value
+abbrev pub refused : {A : Type 0} → Result A CheckFault → Option Refusal
+refused r = option_map numbers (result_err r)

@@ -1,11 +1,11 @@
-mod positions;
+mod candidate;
 
 ghost use Rattle.std.specs.Prelude.{◌≡◌, is_ok, IfOk, Decides};
-ghost use Rattle.reading.specs.Records.{parts_of};
 ghost use Rattle.checking.specs.Controllers.{plan_in, Bound};
 ghost use Rattle.checking.specs.Faults.{told};
-ghost use Rattle.checking.specs.Checks.{sized, check_answer, Ranked};
+ghost use Rattle.checking.specs.Checks.{check_answer, Ranked};
 
+use crate::check::candidate::Candidate;
 use crate::faults::CheckFault;
 use crate::seat::Seat;
 use games::deal::Deal;
@@ -13,18 +13,11 @@ use games::machine::{Game, Machine};
 use reading::phase_table::PhaseTable;
 use reading::records::Record;
 
-/// Whether a record is of the sizes of game and table.
-fn sized<G: Machine>(game: &G, table: &PhaseTable, plan: &Record<'_>) -> bool
-    ensures { result ≡ sized (G.Machine.meaning game.now) table.now (parts_of plan.now) }
-{
-    plan.states == game.states() && plan.phases == table.phases() && plan.signals == game.own()
-}
-
 /// The bound of the ranked controller that bytes hold for a side, or their first fault.
-pub fn check<'a, G: Game>(
-    game: &'a G,
-    table: &'a PhaseTable,
-    deal: &'a Deal,
+pub fn check<G: Game>(
+    game: &G,
+    table: &PhaseTable,
+    deal: &Deal,
     side: u8,
     bytes: &[u8],
 ) -> Result<u16, CheckFault>
@@ -42,11 +35,10 @@ pub fn check<'a, G: Game>(
         return Err(CheckFault::Sizes);
     }
     let plan = Record::read(bytes)?;
-    if !sized(game, table, &plan) {
+    let candidate = Candidate { seat, plan };
+    if !candidate.sized() {
         return Err(CheckFault::RecordSizes);
     }
-    if let Some(fault) = seat.plan_fault(&plan) {
-        return Err(fault);
-    }
+    candidate.check()?;
     Ok(plan.bound())
 }

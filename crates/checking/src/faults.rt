@@ -1,9 +1,14 @@
 mod numbers;
 
-ghost use Rattle.std.specs.Prelude.{◌≡◌};
+ghost use Rattle.std.specs.Prelude.{◌≡◌, ◌++◌, Some, codes, decimal};
 ghost use Rattle.checking.specs.declared.faults.CheckFault.TheVariants.{Reading};
+ghost use Rattle.checking.specs.Faults.{numbers};
+ghost use Rattle.checking.specs.Solutions.{solve_number};
 
 use reading::faults::ReadFault;
+use reading::records::Position;
+use std::error::Error;
+use std::fmt;
 
 /// Why a record is no ranked controller, with what the fault is about.
 #[derive(Clone, Copy, PartialEq, Eq, Debug)]
@@ -15,46 +20,31 @@ pub enum CheckFault {
     /// Sizes of the record and of game or table differ.
     RecordSizes,
     /// Only one of choice and rank is absent.
-    HalfKept {
-        state: u16,
-        phase: u8,
-    },
+    HalfKept(Position),
     /// The start is not kept in phase 0.
     StartAbsent {
         state: u16,
     },
     /// A kept state is forbidden.
-    Forbidden {
-        state: u16,
-        phase: u8,
-    },
+    Forbidden(Position),
     /// The choice is not promised.
-    NotPromised {
-        state: u16,
-        phase: u8,
-    },
+    NotPromised(Position),
     /// The rank is 0 elsewhere than at a goal, or a goal's is not.
-    GoalRank {
-        state: u16,
-        phase: u8,
-    },
+    GoalRank(Position),
     /// Under a partner signal relied on there is no next state.
     NoNext {
-        state: u16,
-        phase: u8,
+        at: Position,
         partner: u8,
     },
     /// A next position is not kept.
     NextAbsent {
-        state: u16,
-        phase: u8,
+        at: Position,
         partner: u8,
         next: u16,
     },
     /// A next rank is not lower.
     NotLower {
-        state: u16,
-        phase: u8,
+        at: Position,
         partner: u8,
         next: u16,
     },
@@ -68,6 +58,16 @@ impl From<ReadFault> for CheckFault {
     }
 }
 
+impl fmt::Display for CheckFault {
+    ghost output = { λ x. Some (codes "refused " ++ decimal (numbers x).number) };
+
+    fn fmt<W: fmt::Write>(&self, f: &mut fmt::Formatter<W>) -> fmt::Result {
+        write!(f, "refused {}", self.number())
+    }
+}
+
+impl Error for CheckFault {}
+
 /// Why there is no solved record.
 #[derive(Clone, Copy, PartialEq, Eq, Debug)]
 pub enum SolveFault {
@@ -78,3 +78,13 @@ pub enum SolveFault {
     /// There is no ranked controller.
     NoController,
 }
+
+impl fmt::Display for SolveFault {
+    ghost output = { λ x. Some (codes "refused " ++ decimal (solve_number x)) };
+
+    fn fmt<W: fmt::Write>(&self, f: &mut fmt::Formatter<W>) -> fmt::Result {
+        write!(f, "refused {}", self.number())
+    }
+}
+
+impl Error for SolveFault {}

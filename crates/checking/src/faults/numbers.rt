@@ -1,13 +1,15 @@
 ghost use Rattle.std.specs.Prelude.{◌≡◌};
-ghost use Rattle.reading.specs.Faults.{told_some as told_read};
-ghost use Rattle.checking.specs.Faults.{numbers};
+ghost use Rattle.std.specs.Option.{option_map, option_map_or};
+ghost use Rattle.reading.specs.Faults.{numbers as read_numbers};
+ghost use Rattle.checking.specs.Faults.{numbers, none};
 ghost use Rattle.checking.specs.Solutions.{solve_number};
 
 use crate::faults::{CheckFault, SolveFault};
 use reading::faults::ReadFault;
+use reading::records::Position;
 
-/// Stands for a value that does not apply.
-const NONE: u16 = 65535;
+/// Stands for a value that does not apply: a refusal is published as its number and four such values.
+const NONE: u16 = 65_535;
 
 impl CheckFault {
     /// The refusal's number.
@@ -18,34 +20,20 @@ impl CheckFault {
             CheckFault::Reading(fault) => fault.number(),
             CheckFault::Sizes => 10,
             CheckFault::RecordSizes => 11,
-            CheckFault::HalfKept { state: _, phase: _ } => 12,
-            CheckFault::StartAbsent { state: _ } => 13,
-            CheckFault::Forbidden { state: _, phase: _ } => 14,
-            CheckFault::NotPromised { state: _, phase: _ } => 15,
-            CheckFault::GoalRank { state: _, phase: _ } => 16,
-            CheckFault::NoNext {
-                state: _,
-                phase: _,
-                partner: _,
-            } => 17,
-            CheckFault::NextAbsent {
-                state: _,
-                phase: _,
-                partner: _,
-                next: _,
-            } => 18,
-            CheckFault::NotLower {
-                state: _,
-                phase: _,
-                partner: _,
-                next: _,
-            } => 19,
+            CheckFault::HalfKept(_) => 12,
+            CheckFault::StartAbsent { .. } => 13,
+            CheckFault::Forbidden(_) => 14,
+            CheckFault::NotPromised(_) => 15,
+            CheckFault::GoalRank(_) => 16,
+            CheckFault::NoNext { .. } => 17,
+            CheckFault::NextAbsent { .. } => 18,
+            CheckFault::NotLower { .. } => 19,
         }
     }
 
     /// The fault of reading, if it is one.
     pub fn reading(&self) -> Option<ReadFault>
-        ensures { told_read result ≡ (numbers self.now).reading }
+        ensures { option_map read_numbers result ≡ (numbers self.now).reading }
     {
         match *self {
             CheckFault::Reading(fault) => Some(fault),
@@ -53,66 +41,36 @@ impl CheckFault {
         }
     }
 
+    /// The position that it is about, if there is one.
+    fn at(&self) -> Option<Position>
+        ensures state { option_map_or (λ at. at.state) result none ≡ (numbers self.now).state }
+        ensures phase { option_map_or (λ at. at.phase) result none ≡ (numbers self.now).phase }
+    {
+        match *self {
+            CheckFault::Reading(_) | CheckFault::Sizes | CheckFault::RecordSizes => None,
+            CheckFault::StartAbsent { state } => Some(Position { state, phase: 0 }),
+            CheckFault::HalfKept(at)
+            | CheckFault::Forbidden(at)
+            | CheckFault::NotPromised(at)
+            | CheckFault::GoalRank(at)
+            | CheckFault::NoNext { at, .. }
+            | CheckFault::NextAbsent { at, .. }
+            | CheckFault::NotLower { at, .. } => Some(at),
+        }
+    }
+
     /// The state that it is about; 65,535 where there is none.
     pub fn state(&self) -> u16
         ensures { result ≡ (numbers self.now).state }
     {
-        match *self {
-            CheckFault::Reading(_) | CheckFault::Sizes | CheckFault::RecordSizes => NONE,
-            CheckFault::StartAbsent { state } => state,
-            CheckFault::HalfKept { state, phase: _ }
-            | CheckFault::Forbidden { state, phase: _ }
-            | CheckFault::NotPromised { state, phase: _ }
-            | CheckFault::GoalRank { state, phase: _ } => state,
-            CheckFault::NoNext {
-                state,
-                phase: _,
-                partner: _,
-            } => state,
-            CheckFault::NextAbsent {
-                state,
-                phase: _,
-                partner: _,
-                next: _,
-            }
-            | CheckFault::NotLower {
-                state,
-                phase: _,
-                partner: _,
-                next: _,
-            } => state,
-        }
+        self.at().map_or(NONE, |at| at.state)
     }
 
     /// The phase that it is about; 65,535 where there is none.
     pub fn phase(&self) -> u16
         ensures { result ≡ (numbers self.now).phase }
     {
-        match *self {
-            CheckFault::Reading(_) | CheckFault::Sizes | CheckFault::RecordSizes => NONE,
-            CheckFault::StartAbsent { state: _ } => 0,
-            CheckFault::HalfKept { state: _, phase }
-            | CheckFault::Forbidden { state: _, phase }
-            | CheckFault::NotPromised { state: _, phase }
-            | CheckFault::GoalRank { state: _, phase } => phase.into(),
-            CheckFault::NoNext {
-                state: _,
-                phase,
-                partner: _,
-            } => phase.into(),
-            CheckFault::NextAbsent {
-                state: _,
-                phase,
-                partner: _,
-                next: _,
-            }
-            | CheckFault::NotLower {
-                state: _,
-                phase,
-                partner: _,
-                next: _,
-            } => phase.into(),
-        }
+        self.at().map_or(NONE, |at| at.phase.into())
     }
 
     /// The partner signal that it is about; 65,535 where there is none.
@@ -120,23 +78,9 @@ impl CheckFault {
         ensures { result ≡ (numbers self.now).partner }
     {
         match *self {
-            CheckFault::NoNext {
-                state: _,
-                phase: _,
-                partner,
-            } => partner.into(),
-            CheckFault::NextAbsent {
-                state: _,
-                phase: _,
-                partner,
-                next: _,
-            }
-            | CheckFault::NotLower {
-                state: _,
-                phase: _,
-                partner,
-                next: _,
-            } => partner.into(),
+            CheckFault::NoNext { partner, .. }
+            | CheckFault::NextAbsent { partner, .. }
+            | CheckFault::NotLower { partner, .. } => partner.into(),
             _ => NONE,
         }
     }
@@ -146,18 +90,7 @@ impl CheckFault {
         ensures { result ≡ (numbers self.now).next }
     {
         match *self {
-            CheckFault::NextAbsent {
-                state: _,
-                phase: _,
-                partner: _,
-                next,
-            }
-            | CheckFault::NotLower {
-                state: _,
-                phase: _,
-                partner: _,
-                next,
-            } => next,
+            CheckFault::NextAbsent { next, .. } | CheckFault::NotLower { next, .. } => next,
             _ => NONE,
         }
     }

@@ -1,0 +1,114 @@
+ghost use Rattle.std.specs.Prelude.{◌≡◌};
+ghost use Rattle.reading.specs.Records.{parts_of};
+ghost use Rattle.checking.specs.Arenas.{playing};
+ghost use Rattle.checking.specs.Faults.{refused};
+ghost use Rattle.checking.specs.Checks.{put, sized, keeps, next_fault, partner_fault, position_fault, plan_fault};
+
+use crate::faults::CheckFault;
+use crate::seat::Seat;
+use games::machine::{Game, Machine};
+use reading::records::{NO_CHOICE, NO_RANK, Position, Record};
+
+/// A plan put forward for a seat.
+#[derive_where(Clone, Copy)]
+pub(crate) struct Candidate<'a, G: Machine> {
+    pub(crate) seat: Seat<'a, G>,
+    pub(crate) plan: Record<'a>,
+}
+
+impl<G: Game> Candidate<'_, G> {
+    /// Whether the plan is of the sizes of game and table.
+    pub(crate) fn sized(&self) -> bool
+        ensures { result ≡ sized (G.Machine.meaning self.now.seat.game.now) self.now.seat.table.now (parts_of self.now.plan) }
+    {
+        let (seat, plan) = (&self.seat, &self.plan);
+        plan.states == seat.game.states()
+            && plan.phases == seat.table.phases()
+            && plan.signals == seat.game.own()
+    }
+
+    /// Whether the plan keeps a position: not if choice and rank are both absent.
+    fn keeps(&self, at: Position) -> bool
+        ensures { result ≡ keeps (put self.now) at.state at.phase }
+    {
+        !(self.plan.choice(at) == NO_CHOICE && self.plan.rank(at) == NO_RANK)
+    }
+
+    /// Checks a next state.
+    fn check_next(&self, at: Position, partner: u8, next: u16) -> Result<(), CheckFault>
+        ensures { refused result ≡ next_fault (playing G.Machine.meaning G.Game.marks self.now.seat) (put self.now) at.state at.phase partner next }
+    {
+        let own = self.plan.choice(at);
+        if !self.seat.game.may_move(at.state, own, partner, next) {
+            return Ok(());
+        }
+        let phase = self.seat.follow(at.phase, own, partner);
+        let then = Position { state: next, phase };
+        if !self.keeps(then) {
+            return Err(CheckFault::NextAbsent { at, partner, next });
+        }
+        if !self.seat.game.goal(at.state) && self.plan.rank(then) >= self.plan.rank(at) {
+            return Err(CheckFault::NotLower { at, partner, next });
+        }
+        Ok(())
+    }
+
+    /// Checks under a partner signal, if it is relied on, next state by next state.
+    fn check_partner(&self, at: Position, partner: u8) -> Result<(), CheckFault>
+        ensures { refused result ≡ partner_fault (playing G.Machine.meaning G.Game.marks self.now.seat) (put self.now) at.state at.phase partner }
+    {
+        if !self.seat.relied(at.phase, partner) {
+            return Ok(());
+        }
+        if !self.seat.has_next(at.state, self.plan.choice(at), partner) {
+            return Err(CheckFault::NoNext { at, partner });
+        }
+        for next in 0..self.seat.game.states() {
+            self.check_next(at, partner, next)?;
+        }
+        Ok(())
+    }
+
+    /// Checks a position, and there partner signal by partner signal.
+    fn check_position(&self, at: Position) -> Result<(), CheckFault>
+        ensures { refused result ≡ position_fault (playing G.Machine.meaning G.Game.marks self.now.seat) (put self.now) at.state at.phase }
+    {
+        let choice = self.plan.choice(at);
+        let rank = self.plan.rank(at);
+        if (choice == NO_CHOICE) != (rank == NO_RANK) {
+            return Err(CheckFault::HalfKept(at));
+        }
+        if choice == NO_CHOICE {
+            return Ok(());
+        }
+        if self.seat.game.forbidden(at.state) {
+            return Err(CheckFault::Forbidden(at));
+        }
+        if !self.seat.promised(at.phase, choice) {
+            return Err(CheckFault::NotPromised(at));
+        }
+        if self.seat.game.goal(at.state) != (rank == 0) {
+            return Err(CheckFault::GoalRank(at));
+        }
+        for partner in 0..self.seat.game.partner() {
+            self.check_partner(at, partner)?;
+        }
+        Ok(())
+    }
+
+    /// Checks the start, then position by position: a fault is the first.
+    pub(crate) fn check(&self) -> Result<(), CheckFault>
+        ensures { refused result ≡ plan_fault (playing G.Machine.meaning G.Game.marks self.now.seat) (put self.now) }
+    {
+        let state = self.seat.game.start();
+        if !self.keeps(Position { state, phase: 0 }) {
+            return Err(CheckFault::StartAbsent { state });
+        }
+        for state in 0..self.seat.game.states() {
+            for phase in 0..self.seat.table.phases() {
+                self.check_position(Position { state, phase })?;
+            }
+        }
+        Ok(())
+    }
+}
