@@ -1,5 +1,5 @@
 -- The faults of reading: number and place.
-use Rattle.std.specs.Prelude.{ℕ, ◌+◌, min, List, length, Some, None, Ok, Err, Option, Result, nat_lt}
+use Rattle.std.specs.Prelude.{ℕ, ◌+◌, min, List, ◌++◌, length, codes, decimal, Some, None, Ok, Err, Option, Result, nat_lt}
 use Rattle.reading.specs.Firsts.{unless}
 use Rattle.reading.specs.Bytes.{byte}
 use Rattle.reading.specs.declared.faults.ReadFault.{ReadFault}
@@ -26,6 +26,10 @@ numbers (Entry at) = fault 4 at
 numbers (Order at) = fault 5 at
 numbers (Clash at) = fault 6 at
 numbers TooLarge = fault 7 0
+
+-- a fault in print
+abbrev pub printed : Fault → List ℕ
+printed f = codes "refused " ++ (decimal f.number ++ (codes " at byte " ++ decimal f.place))
 
 -- the fault that an answer tells, none where it has a value
 abbrev pub told : {A : Type 0} → Result A ReadFault → Option Fault

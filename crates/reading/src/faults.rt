@@ -1,8 +1,11 @@
 mod numbers;
 
-ghost use Rattle.std.specs.Prelude.{◌≡◌};
+ghost use Rattle.std.specs.Prelude.{◌≡◌, Some};
 ghost use Rattle.reading.specs.Firsts.{unless};
-ghost use Rattle.reading.specs.Faults.{numbers, told};
+ghost use Rattle.reading.specs.Faults.{numbers, printed, told};
+
+use std::error::Error;
+use std::fmt;
 
 /// Why bytes are no sheet, with the place of the first byte that is wrong.
 #[derive(Clone, Copy, PartialEq, Eq, Debug)]
@@ -22,6 +25,16 @@ pub enum ReadFault {
     /// More than 256 states together with the automaton's.
     TooLarge,
 }
+
+impl fmt::Display for ReadFault {
+    ghost output = { λ fault. Some (printed (numbers fault)) };
+
+    fn fmt<W: fmt::Write>(&self, f: &mut fmt::Formatter<W>) -> fmt::Result {
+        write!(f, "refused {} at byte {}", self.number(), self.place())
+    }
+}
+
+impl Error for ReadFault {}
 
 /// The fault, unless the test holds.
 pub fn check(test: bool, fault: ReadFault) -> Result<(), ReadFault>

@@ -1,7 +1,19 @@
-ghost use Rattle.std.specs.Prelude.{◌≡◌};
+ghost use Rattle.std.specs.Prelude.{◌≡◌, ◌++◌, Some, codes, decimal};
 ghost use Rattle.games.specs.Deals.{numbers};
 
 use crate::deal::talk::TalkFault;
+use std::error::Error;
+use std::fmt;
+
+impl fmt::Display for TalkFault {
+    ghost output = { λ fault. Some (codes "refused " ++ decimal (numbers fault).number) };
+
+    fn fmt<W: fmt::Write>(&self, f: &mut fmt::Formatter<W>) -> fmt::Result {
+        write!(f, "refused {}", self.number())
+    }
+}
+
+impl Error for TalkFault {}
 
 impl TalkFault {
     /// The refusal's number.
