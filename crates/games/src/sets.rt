@@ -1,5 +1,5 @@
-ghost use Rattle.std.specs.Prelude.{◌≡◌, ◌/◌, ◌^◌};
-ghost use Rattle.games.specs.Sets.{width, has, row, filled, described, inside};
+ghost use Rattle.std.specs.Prelude.{◌≡◌, ◌/◌, ◌^◌, ◌==◌};
+ghost use Rattle.games.specs.Sets.{width, has, row, after, filled, described, inside};
 
 /// How many signals a phase has room for.
 const WIDTH: u32 = 4;
@@ -25,12 +25,18 @@ fn filled(row: u32, signals: u8) -> bool
     row != 0 && from_bit(row, u32::from(signals)) == 0
 }
 
+/// Whether a set holds nothing from a phase on.
+fn ends(set: u32, phases: u8) -> bool
+    ensures { result ≡ ((after width set phases) == 0) }
+{
+    from_bit(set, WIDTH * u32::from(phases)) == 0
+}
+
 /// Whether a set is as described for so many phases and signals.
 pub(crate) fn described(set: u32, phases: u8, signals: u8) -> bool
     ensures { result ≡ described width phases signals set }
 {
-    from_bit(set, WIDTH * u32::from(phases)) == 0
-        && (0..phases).all(|phase| filled(row(set, phase), signals))
+    ends(set, phases) && (0..phases).all(|phase| filled(row(set, phase), signals))
 }
 
 /// Whether every signal that one set has in a phase is in the other too.

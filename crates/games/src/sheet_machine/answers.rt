@@ -1,10 +1,18 @@
+ghost use Rattle.std.specs.Prelude.{◌≡◌};
+ghost use Rattle.games.specs.Listings.{listed};
 ghost use Rattle.games.specs.SheetMachines.{machine_of};
 ghost use Rattle.std.proofs.Common.{rules};
 
 use crate::machine::Machine;
 use crate::sheet_machine::SheetMachine;
-use reading::bytes::byte_at;
 use reading::machine_sheet::{Frame, Move};
+
+/// Whether a move is in the list.
+fn lists(moves: &[Move], key: u16, target: u16) -> bool
+    ensures { result ≡ listed moves.now key target }
+{
+    moves.contains(&Move { key, target })
+}
 
 impl Machine for SheetMachine {
     ghost meaning = { machine_of };
@@ -45,6 +53,6 @@ impl Machine for SheetMachine {
         }
         let row = state * u16::from(frame.own) + u16::from(own);
         let key = row * u16::from(frame.partner) + u16::from(partner);
-        self.moves.contains(&Move { key, target: next })
+        lists(&self.moves, key, next)
     }
 }
