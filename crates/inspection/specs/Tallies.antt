@@ -1,5 +1,6 @@
 -- How many states have a mark.
-use Rattle.std.specs.Prelude.{ℕ, zero, suc, ◌+◌, Bool, cond, List}
+use Rattle.std.specs.Prelude.{ℕ, Bool, List, count_by}
+use Rattle.std.specs.List.{range_with_len}
 use Rattle.reading.specs.MarkSheets.{Sets}
 use Rattle.inspection.specs.declared.marks.Mark.{Mark}
 use Rattle.inspection.specs.declared.marks.Mark.TheVariants.{Forbidden, Goal}
@@ -10,6 +11,5 @@ set_of Forbidden s = s.forbidden
 set_of Goal s = s.goals
 
 -- at how many of the indices below n the test holds
-unfoldable pub tally : ℕ → (ℕ → Bool) → ℕ
-tally zero f = 0
-tally (suc n) f = tally n f + cond (f n) 1 0
+abbrev pub tally : ℕ → (ℕ → Bool) → ℕ
+tally n f = count_by f (range_with_len 0 n)

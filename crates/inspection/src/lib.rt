@@ -12,3 +12,4 @@ mod records;
 mod refusals;
 mod rule;
 pub mod sheets;
+mod sizes;

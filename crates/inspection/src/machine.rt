@@ -3,9 +3,9 @@ ghost use Rattle.reading.specs.MachineSheets.{sheet_of};
 ghost use Rattle.inspection.specs.Sources.{state_of, state_at, opens_at};
 
 use crate::places::row_column;
-use crate::sheets::Describe;
+use crate::sizes::Sizes;
 use reading::machine_sheet::MachineSheet;
-use std::alloc::AllocError;
+use std::fmt::{self, Formatter, Write};
 
 /// Where a move starts: a state, and the signals that both sides show there.
 #[derive(Clone, Copy)]
@@ -69,72 +69,65 @@ fn closes(sheet: &MachineSheet<'_>, i: u16) -> bool
 }
 
 /// One line for all targets of a key: the move that opens the key begins it.
-fn write_move(out: &mut String, sheet: &MachineSheet<'_>, i: u16) -> Result<(), AllocError> {
+fn write_move<W: Write>(f: &mut Formatter<W>, sheet: &MachineSheet<'_>, i: u16) -> fmt::Result {
     let target = sheet.entry(i).target;
     if opens(sheet, i) {
         let Source { own, partner, .. } = source_at(sheet, i);
-        write!(out, "\n  own {own}, partner {partner}: to {target}")
+        write!(f, "\n  own {own}, partner {partner}: to {target}")
     } else if closes(sheet, i) {
-        write!(out, " or {target}")
+        write!(f, " or {target}")
     } else {
-        write!(out, ", {target}")
+        write!(f, ", {target}")
     }
 }
 
 /// The moves of one state, which are those from `from` up to `end`.
-fn write_moves(
-    out: &mut String,
+fn write_moves<W: Write>(
+    f: &mut Formatter<W>,
     sheet: &MachineSheet<'_>,
     from: u16,
     end: u16,
-) -> Result<(), AllocError> {
-    let mut keys: u16 = 0;
+) -> fmt::Result {
     for i in from..end {
-        write_move(out, sheet, i)?;
-        if opens(sheet, i) {
-            keys += 1;
-        }
+        write_move(f, sheet, i)?;
     }
+    let keys = (from..end).filter(|&i| opens(sheet, i)).count();
     if keys == 0 {
-        writeln!(out, " no moves")
-    } else if keys < u16::from(sheet.own) * u16::from(sheet.partner) {
-        writeln!(out, "\n  no other move")
+        writeln!(f, " no moves")
+    } else if keys < usize::from(sheet.own) * usize::from(sheet.partner) {
+        writeln!(f, "\n  no other move")
     } else {
-        writeln!(out)
+        writeln!(f)
     }
 }
 
-fn write_heading(out: &mut String, sheet: &MachineSheet<'_>, state: u16) -> Result<(), AllocError> {
+fn write_heading<W: Write>(
+    f: &mut Formatter<W>,
+    sheet: &MachineSheet<'_>,
+    state: u16,
+) -> fmt::Result {
     let label = sheet.label(state);
     let start = if state == sheet.start { ", start" } else { "" };
-    write!(out, "state {state} (label {label}{start}):")
+    write!(f, "state {state} (label {label}{start}):")
 }
 
-fn write_sizes(out: &mut String, sheet: &MachineSheet<'_>) -> Result<(), AllocError> {
-    writeln!(
-        out,
-        "machine sheet\n\
-         states           {:>4}\n\
-         own signals      {:>4}\n\
-         partner signals  {:>4}\n\
-         start            {:>4}\n\
-         moves            {:>4}\n",
-        sheet.states, sheet.own, sheet.partner, sheet.start, sheet.moves
-    )
-}
-
-impl Describe for MachineSheet<'_> {
-    /// The sizes, then each state with its label and its moves.
-    fn describe(&self, out: &mut String) -> Result<(), AllocError> {
-        write_sizes(out, self)?;
-        let mut from = 0;
-        for state in 0..self.states {
-            // Moves stand in the order of their states, so one walk meets them all.
-            let end = end_of(self, state, from);
-            write_heading(out, self, state)?;
-            write_moves(out, self, from, end)?;
-            from = end;
-        }
-        Ok(())
+/// The sizes, then the moves of each state.
+pub(crate) fn write<W: Write>(f: &mut Formatter<W>, sheet: &MachineSheet<'_>) -> fmt::Result {
+    let sizes = Sizes {
+        states: sheet.states,
+        own: sheet.own,
+        partner: sheet.partner,
+        start: sheet.start,
+    };
+    let moves = sheet.moves;
+    writeln!(f, "machine sheet\n{sizes}moves            {moves:>4}\n")?;
+    let mut from = 0;
+    for state in 0..sheet.states {
+        // Moves stand in the order of their states, so one walk meets them all.
+        let end = end_of(sheet, state, from);
+        write_heading(f, sheet, state)?;
+        write_moves(f, sheet, from, end)?;
+        from = end;
     }
+    Ok(())
 }

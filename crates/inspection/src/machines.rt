@@ -3,104 +3,103 @@ ghost use Rattle.games.specs.Lifts.{lift_fault};
 ghost use Rattle.inspection.specs.Refusals.{Tells, product_fault};
 
 use crate::kinds::Kind;
-use crate::refusals::{lift_refusal, refusal};
+use crate::refusals::{Sentence, refusal};
+use crate::sizes::Sizes;
 use games::lift::Lift;
 use games::machine::{Game, Machine};
 use games::sheet_machine::SheetMachine;
 use games::watched::Watched;
 use std::alloc::{AllocError, Global};
+use std::fmt::{self, Formatter, Write};
 
 /// One line for the next states under two signals, if there are any.
-fn write_nexts<M: Machine>(
-    out: &mut String,
+fn write_nexts<W: Write, M: Machine>(
+    f: &mut Formatter<W>,
     machine: &M,
     state: u16,
     own: u8,
     partner: u8,
-) -> Result<(), AllocError> {
-    let mut some = false;
-    for next in 0..machine.states() {
-        if !machine.may_move(state, own, partner, next) {
-            continue;
-        }
-        if some {
-            write!(out, " or {next}")?;
-        } else {
-            write!(out, "  own {own}, partner {partner}: to {next}")?;
-        }
-        some = true;
+) -> fmt::Result {
+    let mut nexts = (0..machine.states()).filter(|&next| machine.may_move(
+        state, own, partner, next,
+    ));
+    let Some(first) = nexts.next() else {
+        return Ok(());
+    };
+    write!(f, "  own {own}, partner {partner}: to {first}")?;
+    for next in nexts {
+        write!(f, " or {next}")?;
     }
-    if some { writeln!(out) } else { Ok(()) }
+    writeln!(f)
 }
 
 /// The moves of a state, a line for each pair of signals that has one.
-fn write_moves<M: Machine>(out: &mut String, machine: &M, state: u16) -> Result<(), AllocError> {
+fn write_moves<W: Write, M: Machine>(f: &mut Formatter<W>, machine: &M, state: u16) -> fmt::Result {
     for own in 0..machine.own() {
         for partner in 0..machine.partner() {
-            write_nexts(out, machine, state, own, partner)?;
+            write_nexts(f, machine, state, own, partner)?;
         }
     }
     Ok(())
 }
 
-fn write_sizes<M: Machine>(out: &mut String, machine: &M) -> Result<(), AllocError> {
-    let states = machine.states();
-    let own = machine.own();
-    let partner = machine.partner();
-    let start = machine.start();
-    writeln!(
-        out,
-        "states           {states:>4}\n\
-         own signals      {own:>4}\n\
-         partner signals  {partner:>4}\n\
-         start            {start:>4}\n"
-    )
-}
-
-/// A watched state: the state below, the automaton's state, the label and the marks.
-fn write_watched<G: Game>(
-    out: &mut String,
-    game: &G,
+/// A machine watched by an automaton with `count` states, in words.
+#[derive(Drop)]
+struct WatchedWords<'a, G> {
+    game: &'a G,
     count: u16,
-    state: u16,
-) -> Result<(), AllocError> {
-    if count > 0 {
-        let below = state / count;
-        let read = state % count;
-        write!(out, "state {state} (machine {below}, automaton {read}")?;
-    }
-    let label = game.label(state);
-    write!(out, ", label {label}")?;
-    if game.goal(state) {
-        write!(out, ", goal")?;
-    }
-    if game.forbidden(state) {
-        write!(out, ", forbidden")?;
-    }
-    writeln!(out, "):")?;
-    write_moves(out, game, state)
 }
 
-fn describe_product<G: Game>(out: &mut String, game: &G, count: u16) -> Result<(), AllocError> {
-    writeln!(out, "machine watched by an automaton")?;
-    write_sizes(out, game)?;
-    for state in 0..game.states() {
-        write_watched(out, game, count, state)?;
+impl<G: Game> WatchedWords<'_, G> {
+    /// A state: the state below, the automaton's state, the label and the marks.
+    fn write_state<W: Write>(&self, f: &mut Formatter<W>, state: u16) -> fmt::Result {
+        let WatchedWords { game, count } = *self;
+        if count > 0 {
+            let below = state / count;
+            let read = state % count;
+            write!(f, "state {state} (machine {below}, automaton {read}")?;
+        }
+        let label = game.label(state);
+        let goal = if game.goal(state) { ", goal" } else { "" };
+        let forbidden = if game.forbidden(state) {
+            ", forbidden"
+        } else {
+            ""
+        };
+        writeln!(f, ", label {label}{goal}{forbidden}):")?;
+        write_moves(f, game, state)
     }
-    Ok(())
 }
 
-fn describe_lift(out: &mut String, lift: &Lift) -> Result<(), AllocError> {
-    writeln!(out, "lift")?;
-    write_sizes(out, lift)?;
-    for state in 0..lift.states() {
-        let floor = state / 2;
-        let load = if state % 2 == 0 { "empty" } else { "loaded" };
-        let label = lift.label(state);
-        writeln!(out, "state {state} (floor {floor}, {load}, label {label}):")?;
-        write_moves(out, lift, state)?;
+impl<G: Game> fmt::Display for WatchedWords<'_, G> {
+    fn fmt<W: Write>(&self, f: &mut Formatter<W>) -> fmt::Result {
+        let sizes = Sizes::of(self.game);
+        writeln!(f, "machine watched by an automaton\n{sizes}")?;
+        for state in 0..self.game.states() {
+            self.write_state(f, state)?;
+        }
+        Ok(())
     }
-    Ok(())
+}
+
+/// A lift, in words.
+#[derive(Clone, Copy)]
+struct LiftWords<'a>(&'a Lift);
+
+impl fmt::Display for LiftWords<'_> {
+    fn fmt<W: Write>(&self, f: &mut Formatter<W>) -> fmt::Result {
+        let lift = self.0;
+        let sizes = Sizes::of(lift);
+        writeln!(f, "lift\n{sizes}")?;
+        for state in 0..lift.states() {
+            let floor = state / 2;
+            let load = if state % 2 == 0 { "empty" } else { "loaded" };
+            let label = lift.label(state);
+            writeln!(f, "state {state} (floor {floor}, {load}, label {label}):")?;
+            write_moves(f, lift, state)?;
+        }
+        Ok(())
+    }
 }
 
 /// A lift of so many floors, for a partner with so many signals, or why there is none.
@@ -108,12 +107,9 @@ pub fn lift(heap: Global, floors: u8, signals: u8) -> Result<String, AllocError>
     ensures { IfOk result (λ text. Tells (lift_fault floors signals) (string_bytes text)) }
 {
     match Lift::new(floors, signals) {
-        Ok(lift) => {
-            let mut out = String::new(heap);
-            describe_lift(&mut out, &lift)?;
-            Ok(out)
-        }
-        Err(fault) => lift_refusal(heap, fault),
+        Ok(lift) => LiftWords(&lift).to_string(heap),
+        Err(fault) if fault.place() == 0 => refusal(heap, fault, "A lift has 2 to 32 floors."),
+        Err(fault) => refusal(heap, fault, "A lift has 2 to 4 partner signals."),
     }
 }
 
@@ -123,15 +119,13 @@ pub fn product(heap: Global, machine: &[u8], rule: &[u8]) -> Result<String, Allo
 {
     let mut below = SheetMachine::new(heap)?;
     if let Err(fault) = below.load(machine) {
-        return refusal(heap, Kind::Machine, machine, fault);
+        return refusal(heap, fault, Sentence::new(Kind::Machine, machine, fault));
     }
     let states = below.states();
     let mut game = Watched::new(below);
     if let Err(fault) = game.watch(rule) {
-        return refusal(heap, Kind::Rule(states), rule, fault);
+        return refusal(heap, fault, Sentence::new(Kind::Rule(states), rule, fault));
     }
-    let mut out = String::new(heap);
     let count = game.states() / states;
-    describe_product(&mut out, &game, count)?;
-    Ok(out)
+    WatchedWords { game: &game, count }.to_string(heap)
 }

@@ -3,15 +3,14 @@ ghost use Rattle.reading.specs.Marks.{marked};
 ghost use Rattle.reading.specs.MarkSheets.{sets_of};
 ghost use Rattle.inspection.specs.Tallies.{set_of, tally};
 
-use crate::sheets::Describe;
 use reading::mark_sheet::MarkSheet;
-use std::alloc::AllocError;
+use std::fmt::{self, Formatter, Write};
 
 /// A mark sheet has bits for so many states.
 const STATES: u16 = 256;
 
 /// The two ways that a state can be marked.
-#[derive(Clone, Copy)]
+#[derive(Clone, Copy, PartialEq, Eq, Debug)]
 enum Mark {
     Forbidden,
     Goal,
@@ -35,48 +34,39 @@ impl Mark {
     }
 
     /// How many states have the mark.
-    fn count(self, sheet: &MarkSheet) -> u16
+    fn count(self, sheet: &MarkSheet) -> usize
         ensures { result ≡ tally 256 (marked (set_of self (sets_of sheet.now))) }
     {
-        let mut count: u16 = 0;
-        for state in 0..STATES {
-            if self.holds(sheet, state) {
-                count += 1;
-            }
-        }
-        count
+        (0..STATES)
+            .filter(|&state| self.holds(sheet, state))
+            .count()
     }
 }
 
 /// The states with a mark, sixteen to a line.
-fn write_states(out: &mut String, sheet: &MarkSheet, mark: Mark) -> Result<(), AllocError> {
-    let mut written: u16 = 0;
-    for state in 0..STATES {
-        if mark.holds(sheet, state) {
-            let line = if written % 16 == 0 { "\n" } else { "" };
-            write!(out, "{line} {state:>3}")?;
-            written += 1;
-        }
+fn write_states<W: Write>(f: &mut Formatter<W>, sheet: &MarkSheet, mark: Mark) -> fmt::Result {
+    let states = (0..STATES).filter(|&state| mark.holds(sheet, state));
+    for (i, state) in states.enumerate() {
+        let line = if i % 16 == 0 { "\n" } else { "" };
+        write!(f, "{line} {state:>3}")?;
     }
-    writeln!(out)
+    writeln!(f)
 }
 
-fn write_set(out: &mut String, sheet: &MarkSheet, mark: Mark) -> Result<(), AllocError> {
+fn write_set<W: Write>(f: &mut Formatter<W>, sheet: &MarkSheet, mark: Mark) -> fmt::Result {
     let name = mark.name();
     match mark.count(sheet) {
-        0 => writeln!(out, "{name}: none"),
+        0 => writeln!(f, "{name}: none"),
         count => {
-            write!(out, "{name} ({count}):")?;
-            write_states(out, sheet, mark)
+            write!(f, "{name} ({count}):")?;
+            write_states(f, sheet, mark)
         }
     }
 }
 
-impl Describe for MarkSheet {
-    /// The marked states, forbidden ones first.
-    fn describe(&self, out: &mut String) -> Result<(), AllocError> {
-        writeln!(out, "mark sheet\n")?;
-        write_set(out, self, Mark::Forbidden)?;
-        write_set(out, self, Mark::Goal)
-    }
+/// The marked states, forbidden ones first.
+pub(crate) fn write<W: Write>(f: &mut Formatter<W>, sheet: &MarkSheet) -> fmt::Result {
+    writeln!(f, "mark sheet\n")?;
+    write_set(f, sheet, Mark::Forbidden)?;
+    write_set(f, sheet, Mark::Goal)
 }

@@ -1,10 +1,9 @@
-use crate::sheets::Describe;
 use reading::phase_table::PhaseTable;
-use std::alloc::AllocError;
+use std::fmt::{self, Formatter, Write};
 
-fn write_sizes(out: &mut String, table: &PhaseTable) -> Result<(), AllocError> {
+fn write_sizes<W: Write>(f: &mut Formatter<W>, table: &PhaseTable) -> fmt::Result {
     writeln!(
-        out,
+        f,
         "phase table\n\
          phases             {}\n\
          signals of side 0  {}\n\
@@ -16,34 +15,37 @@ fn write_sizes(out: &mut String, table: &PhaseTable) -> Result<(), AllocError> {
     )
 }
 
-fn write_row(out: &mut String, table: &PhaseTable, phase: u8, first: u8) -> Result<(), AllocError> {
-    write!(out, "{first:>7} |")?;
+fn write_row<W: Write>(
+    f: &mut Formatter<W>,
+    table: &PhaseTable,
+    phase: u8,
+    first: u8,
+) -> fmt::Result {
+    write!(f, "{first:>7} |")?;
     for second in 0..table.signals1() {
-        write!(out, "  {}", table.next(phase, first, second))?;
+        write!(f, "  {}", table.next(phase, first, second))?;
     }
-    writeln!(out)
+    writeln!(f)
 }
 
 /// One table: a row for each signal of side 0, a column for each of side 1.
-fn write_phase(out: &mut String, table: &PhaseTable, phase: u8) -> Result<(), AllocError> {
-    write!(out, "\nphase {phase} |")?;
+fn write_phase<W: Write>(f: &mut Formatter<W>, table: &PhaseTable, phase: u8) -> fmt::Result {
+    write!(f, "\nphase {phase} |")?;
     for second in 0..table.signals1() {
-        write!(out, "  {second}")?;
+        write!(f, "  {second}")?;
     }
-    writeln!(out)?;
+    writeln!(f)?;
     for first in 0..table.signals0() {
-        write_row(out, table, phase, first)?;
+        write_row(f, table, phase, first)?;
     }
     Ok(())
 }
 
-impl Describe for PhaseTable {
-    /// The sizes, then a table for each phase.
-    fn describe(&self, out: &mut String) -> Result<(), AllocError> {
-        write_sizes(out, self)?;
-        for phase in 0..self.phases() {
-            write_phase(out, self, phase)?;
-        }
-        Ok(())
+/// The sizes, then a table for each phase.
+pub(crate) fn write<W: Write>(f: &mut Formatter<W>, table: &PhaseTable) -> fmt::Result {
+    write_sizes(f, table)?;
+    for phase in 0..table.phases() {
+        write_phase(f, table, phase)?;
     }
+    Ok(())
 }

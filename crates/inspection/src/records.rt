@@ -1,25 +1,20 @@
-use crate::sheets::Describe;
 use reading::records::{NO_CHOICE, NO_RANK, Position, Record};
-use std::alloc::AllocError;
+use std::fmt::{self, Formatter, Write};
 
 /// A position's row: a position with neither choice nor rank is not kept.
-fn write_row(
-    out: &mut String,
-    record: &Record<'_>,
-    at: Position,
-) -> Result<(), AllocError> {
+fn write_row<W: Write>(f: &mut Formatter<W>, record: &Record<'_>, at: Position) -> fmt::Result {
     let Position { state, phase } = at;
-    write!(out, "{state:>5}  {phase:>5}  ")?;
+    write!(f, "{state:>5}  {phase:>5}  ")?;
     match (record.choice(at), record.rank(at)) {
-        (NO_CHOICE, NO_RANK) => writeln!(out, "not kept"),
-        (NO_CHOICE, rank) => writeln!(out, "  none  {rank:>5}"),
-        (choice, rank) => writeln!(out, "{choice:>6}  {rank:>5}"),
+        (NO_CHOICE, NO_RANK) => writeln!(f, "not kept"),
+        (NO_CHOICE, rank) => writeln!(f, "  none  {rank:>5}"),
+        (choice, rank) => writeln!(f, "{choice:>6}  {rank:>5}"),
     }
 }
 
-fn write_sizes(out: &mut String, record: &Record<'_>) -> Result<(), AllocError> {
+fn write_sizes<W: Write>(f: &mut Formatter<W>, record: &Record<'_>) -> fmt::Result {
     writeln!(
-        out,
+        f,
         "controller record\n\
          states   {:>3}\n\
          phases   {:>3}\n\
@@ -28,16 +23,14 @@ fn write_sizes(out: &mut String, record: &Record<'_>) -> Result<(), AllocError> 
     )
 }
 
-impl Describe for Record<'_> {
-    /// The sizes, a row for each position, then the bound.
-    fn describe(&self, out: &mut String) -> Result<(), AllocError> {
-        write_sizes(out, self)?;
-        writeln!(out, "state  phase  choice   rank")?;
-        for state in 0..self.states {
-            for phase in 0..self.phases {
-                write_row(out, self, Position { state, phase })?;
-            }
+/// The sizes, a row for each position, then the bound.
+pub(crate) fn write<W: Write>(f: &mut Formatter<W>, record: &Record<'_>) -> fmt::Result {
+    write_sizes(f, record)?;
+    writeln!(f, "state  phase  choice   rank")?;
+    for state in 0..record.states {
+        for phase in 0..record.phases {
+            write_row(f, record, Position { state, phase })?;
         }
-        writeln!(out, "\nbound: {} (the largest kept rank)", self.bound())
     }
+    writeln!(f, "\nbound: {} (the largest kept rank)", record.bound())
 }

@@ -8,12 +8,13 @@ use crate::sheets::LIMIT;
 use reading::bytes::byte_at;
 use reading::faults::ReadFault;
 use std::alloc::{AllocError, Global};
+use std::fmt::{self, Formatter, Write};
 
 /// Said of a fault that its kind of sheet does not have.
 const UNLAWFUL: &str = "The sheet is not lawful there.";
 
 /// Too short for the fixed fields.
-fn short(heap: Global, kind: Kind, len: u16) -> Result<String, AllocError> {
+fn write_short<W: Write>(f: &mut Formatter<W>, kind: Kind, len: u16) -> fmt::Result {
     let (name, fixed) = match kind {
         Kind::Machine => ("machine sheet", 8),
         Kind::Marks(_) => ("mark sheet", 64),
@@ -21,7 +22,10 @@ fn short(heap: Global, kind: Kind, len: u16) -> Result<String, AllocError> {
         Kind::Phases => ("phase table", 3),
         Kind::Record => ("controller record", 4),
     };
-    format!(in heap; "A {name} has at least {fixed} bytes; this one has {len}.")
+    write!(
+        f,
+        "A {name} has at least {fixed} bytes; this one has {len}."
+    )
 }
 
 /// A field out of range.
@@ -44,13 +48,13 @@ fn field(kind: Kind, place: u16) -> &'static str {
 }
 
 /// Too long for any sheet, or of another length than its kind or its fields say.
-fn size(heap: Global, kind: Kind, len: u16) -> Result<String, AllocError> {
+fn write_size<W: Write>(f: &mut Formatter<W>, kind: Kind, len: u16) -> fmt::Result {
     if usize::from(len) > LIMIT {
-        return String::from_str(heap, "A sheet has at most 40,000 bytes; this one has more.");
+        return f.write_str("A sheet has at most 40,000 bytes; this one has more.");
     }
     match kind {
-        Kind::Marks(_) => format!(in heap; "A mark sheet has 64 bytes; this one has {len}."),
-        _ => String::from_str(heap, "The length does not fit the sizes in its fields."),
+        Kind::Marks(_) => write!(f, "A mark sheet has 64 bytes; this one has {len}."),
+        _ => f.write_str("The length does not fit the sizes in its fields."),
     }
 }
 
@@ -67,65 +71,77 @@ fn part_at(bytes: &[u8], place: u16) -> Part {
 }
 
 /// A label, a key or a target out of range.
-fn part(heap: Global, part: Part) -> Result<String, AllocError> {
+fn write_part<W: Write>(f: &mut Formatter<W>, part: Part) -> fmt::Result {
     match part {
-        Part::Label(state) => format!(in heap; "The label of state {state} is above 7."),
-        Part::Key(i) => format!(in heap; "The key of move {i} names no state of the machine."),
-        Part::Target(i) => format!(in heap;
-            "The target of move {i} is not a state of the machine."
-        ),
+        Part::Label(state) => write!(f, "The label of state {state} is above 7."),
+        Part::Key(i) => write!(f, "The key of move {i} names no state of the machine."),
+        Part::Target(i) => write!(f, "The target of move {i} is not a state of the machine."),
     }
 }
 
 /// A move out of order.
-fn order(heap: Global, part: Part) -> Result<String, AllocError> {
+fn write_order<W: Write>(f: &mut Formatter<W>, part: Part) -> fmt::Result {
     match part {
-        Part::Key(i) => format!(in heap; "Move {i} does not come after the move before it."),
-        Part::Label(_) | Part::Target(_) => String::from_str(heap, UNLAWFUL),
+        Part::Key(i) => write!(f, "Move {i} does not come after the move before it."),
+        Part::Label(_) | Part::Target(_) => f.write_str(UNLAWFUL),
     }
 }
 
 /// A mark on a state that the machine does not have.
-fn stray(heap: Global, bytes: &[u8], states: u16, place: u16) -> Result<String, AllocError> {
+fn write_stray<W: Write>(
+    f: &mut Formatter<W>,
+    bytes: &[u8],
+    states: u16,
+    place: u16,
+) -> fmt::Result {
     let mark = if place < 32 { "forbidden" } else { "as a goal" };
     match marked_state(byte_at(bytes, place.into()), place, states) {
-        Some(state) => format!(in heap;
+        Some(state) => write!(
+            f,
             "State {state} is marked {mark}, but the machine has {states} states."
         ),
-        None => String::from_str(heap, UNLAWFUL),
+        None => f.write_str(UNLAWFUL),
     }
 }
 
 /// A state in both sets; its bytes lie 32 apart.
-fn clash(heap: Global, bytes: &[u8], place: u16) -> Result<String, AllocError> {
+fn write_clash<W: Write>(f: &mut Formatter<W>, bytes: &[u8], place: u16) -> fmt::Result {
     let i = usize::from(place);
     let both = byte_at(bytes, i) & byte_at(bytes, i + 32);
     match marked_state(both, place, 0) {
-        Some(state) => format!(in heap; "State {state} is marked forbidden and as a goal."),
-        None => String::from_str(heap, UNLAWFUL),
+        Some(state) => write!(f, "State {state} is marked forbidden and as a goal."),
+        None => f.write_str(UNLAWFUL),
     }
 }
 
 /// An entry out of range.
-fn entry(heap: Global, kind: Kind, bytes: &[u8], place: u16) -> Result<String, AllocError> {
+fn write_entry<W: Write>(
+    f: &mut Formatter<W>,
+    kind: Kind,
+    bytes: &[u8],
+    place: u16,
+) -> fmt::Result {
     match kind {
-        Kind::Machine => part(heap, part_at(bytes, place)),
-        Kind::Marks(states) => stray(heap, bytes, states, place),
+        Kind::Machine => write_part(f, part_at(bytes, place)),
+        Kind::Marks(states) => write_stray(f, bytes, states, place),
         Kind::Rule(_) => {
             let (state, label) = rule_entry(place);
-            format!(in heap;
+            write!(
+                f,
                 "The next state of state {state} on label {label} is not a state of the automaton."
             )
         }
         Kind::Phases => {
             let (phase, first, second) = phase_entry(place, byte_at(bytes, 1), byte_at(bytes, 2));
-            format!(in heap;
+            write!(
+                f,
                 "The phase after phase {phase} on signals {first} and {second} is not a phase of the table."
             )
         }
         Kind::Record => {
             let (state, phase) = record_position(place, byte_at(bytes, 2));
-            format!(in heap;
+            write!(
+                f,
                 "The choice for state {state} in phase {phase} is neither a signal nor absent."
             )
         }
@@ -133,59 +149,56 @@ fn entry(heap: Global, kind: Kind, bytes: &[u8], place: u16) -> Result<String, A
 }
 
 /// Too many states for the machine and the automaton together.
-fn too_large(heap: Global, kind: Kind, bytes: &[u8]) -> Result<String, AllocError> {
+fn write_too_large<W: Write>(f: &mut Formatter<W>, kind: Kind, bytes: &[u8]) -> fmt::Result {
     let own = byte_at(bytes, 0);
     match kind {
-        Kind::Rule(states) => format!(in heap;
+        Kind::Rule(states) => write!(
+            f,
             "The machine's {states} states times the automaton's {own} are above 256."
         ),
-        _ => String::from_str(heap, UNLAWFUL),
+        _ => f.write_str(UNLAWFUL),
     }
 }
 
-/// What is wrong with a refused sheet, in a sentence.
-fn sentence(
-    heap: Global,
+/// What is wrong with a refused sheet, as a sentence.
+#[derive(Clone, Copy)]
+pub(crate) struct Sentence<'a> {
     kind: Kind,
-    bytes: &[u8],
+    bytes: &'a [u8],
     fault: ReadFault,
-) -> Result<String, AllocError> {
-    match fault {
-        ReadFault::Short(len) => short(heap, kind, len),
-        ReadFault::Field(place) => String::from_str(heap, field(kind, place)),
-        ReadFault::Size(len) => size(heap, kind, len),
-        ReadFault::Entry(place) => entry(heap, kind, bytes, place),
-        ReadFault::Order(place) => order(heap, part_at(bytes, place)),
-        ReadFault::Clash(place) => clash(heap, bytes, place),
-        ReadFault::TooLarge => too_large(heap, kind, bytes),
+}
+
+impl<'a> Sentence<'a> {
+    pub(crate) fn new(kind: Kind, bytes: &'a [u8], fault: ReadFault) -> Sentence<'a> {
+        Sentence { kind, bytes, fault }
     }
 }
 
-/// A refused sheet: the fault's number and place, then what is wrong there.
-pub(crate) fn refusal(
+impl fmt::Display for Sentence<'_> {
+    fn fmt<W: Write>(&self, f: &mut Formatter<W>) -> fmt::Result {
+        let Sentence { kind, bytes, fault } = *self;
+        match fault {
+            ReadFault::Short(len) => write_short(f, kind, len),
+            ReadFault::Field(place) => f.write_str(field(kind, place)),
+            ReadFault::Size(len) => write_size(f, kind, len),
+            ReadFault::Entry(place) => write_entry(f, kind, bytes, place),
+            ReadFault::Order(place) => write_order(f, part_at(bytes, place)),
+            ReadFault::Clash(place) => write_clash(f, bytes, place),
+            ReadFault::TooLarge => write_too_large(f, kind, bytes),
+        }
+    }
+}
+
+/// What is refused: the fault's number and place, then what is wrong there.
+pub(crate) fn refusal<S: fmt::Display + Drop>(
     heap: Global,
-    kind: Kind,
-    bytes: &[u8],
     fault: ReadFault,
+    sentence: S,
 ) -> Result<String, AllocError>
     ensures { IfOk result (λ text. Refuses (numbers fault) (string_bytes text)) }
 {
     let number = fault.number();
     let place = fault.place();
-    let why = sentence(heap, kind, bytes, fault)?;
-    format!(in heap; "refused {number} at byte {place}\n{why}\n")
-}
-
-/// A lift that cannot be made.
-pub(crate) fn lift_refusal(heap: Global, fault: ReadFault) -> Result<String, AllocError>
-    ensures { IfOk result (λ text. Refuses (numbers fault) (string_bytes text)) }
-{
-    let number = fault.number();
-    let place = fault.place();
-    let why = if place == 0 {
-        "A lift has 2 to 32 floors."
-    } else {
-        "A lift has 2 to 4 partner signals."
-    };
+    let why = sentence.to_string(heap)?;
     format!(in heap; "refused {number} at byte {place}\n{why}\n")
 }

@@ -1,18 +1,16 @@
-use crate::sheets::Describe;
 use reading::rule_sheet::RuleSheet;
-use std::alloc::AllocError;
+use std::fmt::{self, Formatter, Write};
 
 /// The forbidden labels, or `none`.
-fn write_forbidden(out: &mut String, sheet: &RuleSheet) -> Result<(), AllocError> {
-    write!(out, "forbidden labels")?;
-    let mut some = false;
-    for label in 0..8 {
-        if sheet.forbidden(label) {
-            write!(out, "  {label}")?;
-            some = true;
-        }
+fn write_forbidden<W: Write>(f: &mut Formatter<W>, sheet: &RuleSheet) -> fmt::Result {
+    write!(f, "forbidden labels")?;
+    if !(0..8).any(|label| sheet.forbidden(label)) {
+        return writeln!(f, "  none");
     }
-    writeln!(out, "{}", if some { "" } else { "  none" })
+    for label in (0..8).filter(|&label| sheet.forbidden(label)) {
+        write!(f, "  {label}")?;
+    }
+    writeln!(f)
 }
 
 /// What is to be said of a state besides its row.
@@ -25,27 +23,25 @@ fn note(sheet: &RuleSheet, state: u8) -> &'static str {
     }
 }
 
-fn write_row(out: &mut String, sheet: &RuleSheet, state: u8) -> Result<(), AllocError> {
-    write!(out, "{state:>5} |")?;
+fn write_row<W: Write>(f: &mut Formatter<W>, sheet: &RuleSheet, state: u8) -> fmt::Result {
+    write!(f, "{state:>5} |")?;
     for label in 0..8 {
-        write!(out, "  {}", sheet.next(state, label))?;
+        write!(f, "  {}", sheet.next(state, label))?;
     }
-    writeln!(out, "{}", note(sheet, state))
+    writeln!(f, "{}", note(sheet, state))
 }
 
-impl Describe for RuleSheet {
-    /// The automaton as a table: a row for each state, a column for each label.
-    fn describe(&self, out: &mut String) -> Result<(), AllocError> {
-        writeln!(out, "rule sheet\nstates            {}", self.states())?;
-        write_forbidden(out, self)?;
-        writeln!(
-            out,
-            "\nnext state, by state and label\n\
-             state |  0  1  2  3  4  5  6  7"
-        )?;
-        for state in 0..self.states() {
-            write_row(out, self, state)?;
-        }
-        Ok(())
+/// The automaton as a table: a row for each state, a column for each label.
+pub(crate) fn write<W: Write>(f: &mut Formatter<W>, sheet: &RuleSheet) -> fmt::Result {
+    writeln!(f, "rule sheet\nstates            {}", sheet.states())?;
+    write_forbidden(f, sheet)?;
+    writeln!(
+        f,
+        "\nnext state, by state and label\n\
+         state |  0  1  2  3  4  5  6  7"
+    )?;
+    for state in 0..sheet.states() {
+        write_row(f, sheet, state)?;
     }
+    Ok(())
 }

@@ -4,7 +4,8 @@ ghost use Rattle.reading.specs.PhaseTables.{phase_fault};
 ghost use Rattle.inspection.specs.Refusals.{sheet_fault, Tells};
 
 use crate::kinds::Kind;
-use crate::refusals::refusal;
+use crate::refusals::{Sentence, refusal};
+use crate::{machine, marks, phases, records, rule};
 use reading::faults::ReadFault;
 use reading::machine_sheet::MachineSheet;
 use reading::mark_sheet::MarkSheet;
@@ -12,13 +13,19 @@ use reading::phase_table::PhaseTable;
 use reading::records::Record;
 use reading::rule_sheet::RuleSheet;
 use std::alloc::{AllocError, Global};
+use std::fmt;
 
 /// Longer input is refused unread.
 pub const LIMIT: usize = 40_000;
 
-/// A sheet that can be told in words.
-pub trait Describe {
-    fn describe(&self, out: &mut String) -> Result<(), AllocError>;
+/// A sheet that was read; its `Display` says what it means.
+#[derive(Clone, Copy)]
+enum Sheet<'a> {
+    Machine(MachineSheet<'a>),
+    Marks(MarkSheet),
+    Rule(RuleSheet),
+    Phases(PhaseTable),
+    Record(Record<'a>),
 }
 
 /// The phase table in the bytes, or their first fault.
@@ -30,22 +37,34 @@ fn phase_table(bytes: &[u8]) -> Result<PhaseTable, ReadFault>
     Ok(table)
 }
 
-/// What was read, in words: a sheet, or the fault that refused it.
-fn report<S: Describe + Drop>(
-    heap: Global,
-    kind: Kind,
-    bytes: &[u8],
-    read: Result<S, ReadFault>,
-) -> Result<String, AllocError>
-    ensures { IfOk result (λ text. Tells (told read) (string_bytes text)) }
-{
-    match read {
-        Ok(sheet) => {
-            let mut out = String::new(heap);
-            sheet.describe(&mut out)?;
-            Ok(out)
+impl<'a> Sheet<'a> {
+    /// The sheet of that kind in the bytes, or their first fault.
+    fn read(kind: Kind, bytes: &'a [u8]) -> Result<Sheet<'a>, ReadFault>
+        ensures { told result ≡ sheet_fault kind bytes.now }
+    {
+        if bytes.len() > LIMIT {
+            let len = u16::try_from(bytes.len()).unwrap_or(u16::MAX);
+            return Err(ReadFault::Size(len));
         }
-        Err(fault) => refusal(heap, kind, bytes, fault),
+        Ok(match kind {
+            Kind::Machine => Sheet::Machine(MachineSheet::read(bytes)?),
+            Kind::Marks(states) => Sheet::Marks(MarkSheet::read(bytes, states)?),
+            Kind::Rule(states) => Sheet::Rule(RuleSheet::read(bytes, states)?),
+            Kind::Phases => Sheet::Phases(phase_table(bytes)?),
+            Kind::Record => Sheet::Record(Record::read(bytes)?),
+        })
+    }
+}
+
+impl fmt::Display for Sheet<'_> {
+    fn fmt<W: fmt::Write>(&self, f: &mut fmt::Formatter<W>) -> fmt::Result {
+        match self {
+            Sheet::Machine(sheet) => machine::write(f, sheet),
+            Sheet::Marks(sheet) => marks::write(f, sheet),
+            Sheet::Rule(sheet) => rule::write(f, sheet),
+            Sheet::Phases(table) => phases::write(f, table),
+            Sheet::Record(record) => records::write(f, record),
+        }
     }
 }
 
@@ -53,15 +72,8 @@ fn report<S: Describe + Drop>(
 pub fn inspect(heap: Global, kind: Kind, bytes: &[u8]) -> Result<String, AllocError>
     ensures { IfOk result (λ text. Tells (sheet_fault kind bytes.now) (string_bytes text)) }
 {
-    if bytes.len() > LIMIT {
-        let fault = ReadFault::Size(bytes.len().min(65535) as u16);
-        return refusal(heap, kind, bytes, fault);
-    }
-    match kind {
-        Kind::Machine => report(heap, kind, bytes, MachineSheet::read(bytes)),
-        Kind::Marks(states) => report(heap, kind, bytes, MarkSheet::read(bytes, states)),
-        Kind::Rule(states) => report(heap, kind, bytes, RuleSheet::read(bytes, states)),
-        Kind::Phases => report(heap, kind, bytes, phase_table(bytes)),
-        Kind::Record => report(heap, kind, bytes, Record::read(bytes)),
+    match Sheet::read(kind, bytes) {
+        Ok(sheet) => sheet.to_string(heap),
+        Err(fault) => refusal(heap, fault, Sentence::new(kind, bytes, fault)),
     }
 }
