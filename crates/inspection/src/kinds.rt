@@ -3,7 +3,7 @@ ghost use Rattle.inspection.specs.declared.kinds.Kind.{Kind};
 ghost use Rattle.inspection.specs.Names.{word, number, Size, Asked};
 
 /// The kinds of sheets; marks and rules are for a machine of so many states.
-#[derive(Clone, Copy)]
+#[derive(Clone, Copy, PartialEq, Eq, Debug)]
 pub enum Kind {
     Machine,
     Marks(u16),
@@ -13,7 +13,7 @@ pub enum Kind {
 }
 
 /// What the words after the program's name ask for.
-#[derive(Clone, Copy)]
+#[derive(Clone, Copy, PartialEq, Eq, Debug)]
 pub enum Request {
     Help,
     Sheet(Kind),
@@ -23,10 +23,7 @@ pub enum Request {
 fn states(digits: &str) -> Option<u16>
     ensures { IfSome result Size }
 {
-    match digits.parse::<u16>() {
-        Ok(n) if 1 <= n && n <= 256 => Some(n),
-        _ => None,
-    }
+    digits.parse().ok().filter(|n| (1..=256).contains(n))
 }
 
 impl Kind {

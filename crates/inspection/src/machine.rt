@@ -1,37 +1,11 @@
 ghost use Rattle.std.specs.Prelude.{◌≡◌, ℕ, ◌+◌, ◌-◌, ◌*◌, ◌<◌, ◌≤◌, ◌||◌, ◌≢◌, nat_le};
 ghost use Rattle.reading.specs.MachineSheets.{sheet_of};
-ghost use Rattle.inspection.specs.Sources.{state_of, state_at, opens_at};
+ghost use Rattle.inspection.specs.Sources.{state_at, opens_at};
 
-use crate::places::row_column;
+use crate::places::Source;
 use crate::sizes::Sizes;
 use reading::machine_sheet::MachineSheet;
 use std::fmt::{self, Formatter, Write};
-
-/// Where a move starts: a state, and the signals that both sides show there.
-#[derive(Clone, Copy)]
-struct Source {
-    state: u16,
-    own: u16,
-    partner: u16,
-}
-
-impl Source {
-    /// A key read backward.
-    fn of(key: u16, own: u8, partner: u8) -> Source
-        ensures state { result.state ≡ state_of own partner key }
-        ensures whole { 1 ≤ own → 1 ≤ partner → (result.state * own + result.own) * partner + result.partner ≡ key }
-        ensures own { 1 ≤ own → result.own < own }
-        ensures partner { 1 ≤ partner → result.partner < partner }
-    {
-        let (row, partner) = row_column(key, partner);
-        let (state, own) = row_column(row, own);
-        Source {
-            state,
-            own,
-            partner,
-        }
-    }
-}
 
 /// Where a move of the list starts.
 fn source_at(sheet: &MachineSheet<'_>, i: u16) -> Source
@@ -46,12 +20,9 @@ fn end_of(sheet: &MachineSheet<'_>, state: u16, from: u16) -> u16
     ensures before { (i : ℕ) → from ≤ i → i < result → i < sheet.now.moves → state_at (sheet_of sheet.now) i ≡ state }
     ensures stops { result < sheet.now.moves → state_at (sheet_of sheet.now) result ≢ state }
 {
-    for i in from..sheet.moves {
-        if source_at(sheet, i).state != state {
-            return i;
-        }
-    }
-    sheet.moves
+    (from..sheet.moves)
+        .find(|&i| source_at(sheet, i).state != state)
+        .unwrap_or(sheet.moves)
 }
 
 /// Whether a move is the first of its key.
@@ -72,8 +43,8 @@ fn closes(sheet: &MachineSheet<'_>, i: u16) -> bool
 fn write_move<W: Write>(f: &mut Formatter<W>, sheet: &MachineSheet<'_>, i: u16) -> fmt::Result {
     let target = sheet.entry(i).target;
     if opens(sheet, i) {
-        let Source { own, partner, .. } = source_at(sheet, i);
-        write!(f, "\n  own {own}, partner {partner}: to {target}")
+        let Source { first, second, .. } = source_at(sheet, i);
+        write!(f, "\n  own {first}, partner {second}: to {target}")
     } else if closes(sheet, i) {
         write!(f, " or {target}")
     } else {

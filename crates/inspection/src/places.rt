@@ -1,23 +1,64 @@
 ghost use Rattle.std.specs.Prelude.{◌≡◌, ◌+◌, ◌*◌, ◌/◌, ◌%◌, ◌<◌, ◌≤◌, max, true, IfSome};
 ghost use Rattle.reading.specs.Bytes.{bit};
 ghost use Rattle.inspection.specs.Places.{Stands};
+ghost use Rattle.inspection.specs.Sources.{state_of};
+
+use reading::records::Position;
 
 /// What a byte of a machine sheet behind its fields belongs to.
-#[derive(Clone, Copy)]
+#[derive(Clone, Copy, PartialEq, Eq, Debug)]
 pub enum Part {
     Label(u16),
     Key(u16),
     Target(u16),
 }
 
-/// Row and column of an entry of a table; to count no columns as one keeps the division total.
-pub(crate) fn row_column(i: u16, columns: u8) -> (u16, u16)
-    ensures row { result.0 ≡ i / max columns 1 }
-    ensures whole { 1 ≤ columns → result.0 * columns + result.1 ≡ i }
-    ensures column { 1 ≤ columns → result.1 < columns }
-{
-    let columns = u16::from(columns.max(1));
-    (i / columns, i % columns)
+/// Where an entry of a table stands, if the table is listed row by row.
+#[derive(Clone, Copy, PartialEq, Eq, Debug)]
+struct Cell {
+    row: u16,
+    column: u8,
+}
+
+impl Cell {
+    /// The cell of an entry by its index; to count no columns as one keeps the division total.
+    fn of(i: u16, columns: u8) -> Cell
+        ensures row { result.row ≡ i / max columns 1 }
+        ensures whole { 1 ≤ columns → result.row * columns + result.column ≡ i }
+        ensures column { 1 ≤ columns → result.column < columns }
+    {
+        let columns = u16::from(columns.max(1));
+        Cell {
+            row: i / columns,
+            column: (i % columns) as u8,
+        }
+    }
+}
+
+/// Where a move starts: a state or a phase, and the signals that both sides show there.
+#[derive(Clone, Copy, PartialEq, Eq, Debug)]
+pub(crate) struct Source {
+    pub state: u16,
+    pub first: u8,
+    pub second: u8,
+}
+
+impl Source {
+    /// A key read backward: it is (state × first signals + first) × second signals + second.
+    pub(crate) fn of(key: u16, firsts: u8, seconds: u8) -> Source
+        ensures state { result.state ≡ state_of firsts seconds key }
+        ensures whole { 1 ≤ firsts → 1 ≤ seconds → (result.state * firsts + result.first) * seconds + result.second ≡ key }
+        ensures first { 1 ≤ firsts → result.first < firsts }
+        ensures second { 1 ≤ seconds → result.second < seconds }
+    {
+        let below = Cell::of(key, seconds);
+        let above = Cell::of(below.row, firsts);
+        Source {
+            state: above.row,
+            first: above.column,
+            second: below.column,
+        }
+    }
 }
 
 /// The part at a place of a machine sheet: 8 bytes of fields, the labels, then two bytes for each key and each target.
@@ -36,42 +77,50 @@ pub(crate) fn machine_part(place: u16, states: u16, moves: u16) -> Part
     }
 }
 
-/// State and label whose next state stands at a place of a rule sheet.
-pub(crate) fn rule_entry(place: u16) -> (u16, u16)
-    ensures whole { 4 ≤ place → 4 + (result.0 * 8 + result.1) ≡ place }
-    ensures label { result.1 < 8 }
+/// A step of an automaton: its state, and the label that it reads there.
+#[derive(Clone, Copy, PartialEq, Eq, Debug)]
+pub(crate) struct Step {
+    pub state: u16,
+    pub label: u8,
+}
+
+/// The step whose next state stands at a place of a rule sheet.
+pub(crate) fn rule_step(place: u16) -> Step
+    ensures whole { 4 ≤ place → 4 + (result.state * 8 + result.label) ≡ place }
+    ensures label { result.label < 8 }
 {
-    row_column(place.saturating_sub(4), 8)
+    let Cell { row, column } = Cell::of(place.saturating_sub(4), 8);
+    Step {
+        state: row,
+        label: column,
+    }
 }
 
 /// Phase and signals whose next phase stands at a place of a phase table.
-pub(crate) fn phase_entry(place: u16, signals0: u8, signals1: u8) -> (u16, u16, u16)
-    ensures whole { 3 ≤ place → 1 ≤ signals0 → 1 ≤ signals1 → 3 + ((result.0 * signals0 + result.1) * signals1 + result.2) ≡ place }
-    ensures first { 1 ≤ signals0 → result.1 < signals0 }
-    ensures second { 1 ≤ signals1 → result.2 < signals1 }
+pub(crate) fn phase_source(place: u16, signals0: u8, signals1: u8) -> Source
+    ensures whole { 3 ≤ place → 1 ≤ signals0 → 1 ≤ signals1 → 3 + ((result.state * signals0 + result.first) * signals1 + result.second) ≡ place }
+    ensures first { 1 ≤ signals0 → result.first < signals0 }
+    ensures second { 1 ≤ signals1 → result.second < signals1 }
 {
-    let (row, second) = row_column(place.saturating_sub(3), signals1);
-    let (phase, first) = row_column(row, signals0);
-    (phase, first, second)
+    Source::of(place.saturating_sub(3), signals0, signals1)
 }
 
-/// State and phase whose choice stands at a place of a controller record.
-pub(crate) fn record_position(place: u16, phases: u8) -> (u16, u16)
-    ensures whole { 4 ≤ place → 1 ≤ phases → 4 + (result.0 * phases + result.1) ≡ place }
-    ensures phase { 1 ≤ phases → result.1 < phases }
+/// The position whose choice stands at a place of a controller record.
+pub(crate) fn record_position(place: u16, phases: u8) -> Position
+    ensures whole { 4 ≤ place → 1 ≤ phases → 4 + (result.state * phases + result.phase) ≡ place }
+    ensures phase { 1 ≤ phases → result.phase < phases }
 {
-    row_column(place.saturating_sub(4), phases)
+    let Cell { row, column } = Cell::of(place.saturating_sub(4), phases);
+    Position {
+        state: row,
+        phase: column,
+    }
 }
 
 /// The first marked state from `low` up in the byte at a place of a mark sheet.
 pub(crate) fn marked_state(byte: u8, place: u16, low: u16) -> Option<u16>
     ensures { IfSome result (λ s. (low ≤ s) × (s / 8 ≡ place % 32) × (bit byte (s % 8) ≡ true)) }
 {
-    for i in 0..8u8 {
-        let state = 8 * (place % 32) + u16::from(i);
-        if low <= state && (byte >> i) % 2 == 1 {
-            return Some(state);
-        }
-    }
-    None
+    let first = 8 * (place % 32);
+    (first..first + 8).find(|&state| low <= state && (byte >> (state % 8)) % 2 == 1)
 }
