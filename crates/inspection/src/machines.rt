@@ -1,4 +1,4 @@
-ghost use Rattle.std.specs.Prelude.{IfOk, string_bytes};
+ghost use Rattle.std.specs.Prelude.{◌≤◌, IfOk, string_bytes};
 ghost use Rattle.games.specs.Lifts.{lift_fault};
 ghost use Rattle.inspection.specs.Refusals.{Tells, product_fault};
 
@@ -48,17 +48,15 @@ fn write_moves<W: Write, M: Machine>(f: &mut Formatter<W>, machine: &M, state: u
 struct WatchedWords<'a, G> {
     game: &'a G,
     count: u16,
+    ghost some: { 1 ≤ count },
 }
 
 impl<G: Game> WatchedWords<'_, G> {
     /// A state: the state below, the automaton's state, the label and the marks.
     fn write_state<W: Write>(&self, f: &mut Formatter<W>, state: u16) -> fmt::Result {
         let WatchedWords { game, count } = *self;
-        if count > 0 {
-            let below = state / count;
-            let read = state % count;
-            write!(f, "state {state} (machine {below}, automaton {read}")?;
-        }
+        let below = state / count;
+        let read = state % count;
         let label = game.label(state);
         let goal = if game.goal(state) { ", goal" } else { "" };
         let forbidden = if game.forbidden(state) {
@@ -66,7 +64,10 @@ impl<G: Game> WatchedWords<'_, G> {
         } else {
             ""
         };
-        writeln!(f, ", label {label}{goal}{forbidden}):")?;
+        writeln!(
+            f,
+            "state {state} (machine {below}, automaton {read}, label {label}{goal}{forbidden}):"
+        )?;
         write_moves(f, game, state)
     }
 }
