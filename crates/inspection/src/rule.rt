@@ -4,10 +4,11 @@ use std::fmt::{self, Formatter, Write};
 /// The forbidden labels, or `none`.
 fn write_forbidden<W: Write>(f: &mut Formatter<W>, sheet: &RuleSheet) -> fmt::Result {
     write!(f, "forbidden labels")?;
-    if !(0..8).any(|label| sheet.forbidden(label)) {
-        return writeln!(f, "  none");
+    let mut labels = (0..8).filter(|&label| sheet.forbidden(label)).peekable();
+    if labels.peek().is_none() {
+        write!(f, "  none")?;
     }
-    for label in (0..8).filter(|&label| sheet.forbidden(label)) {
+    for label in labels {
         write!(f, "  {label}")?;
     }
     writeln!(f)
