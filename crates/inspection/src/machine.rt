@@ -11,7 +11,7 @@ use std::fmt::{self, Formatter, Write};
 fn source_at(sheet: &MachineSheet<'_>, i: u16) -> Source
     ensures { result.state ≡ state_at (sheet_of sheet.now) i }
 {
-    Source::of(sheet.entry(i).key, sheet.own, sheet.partner)
+    Source::of(sheet.entry(i).key, sheet.frame.own, sheet.frame.partner)
 }
 
 /// The first move from `from` on that does not start in the state.
@@ -65,7 +65,7 @@ fn write_moves<W: Write>(
     let keys = (from..end).filter(|&i| opens(sheet, i)).count();
     if keys == 0 {
         writeln!(f, " no moves")
-    } else if keys < usize::from(sheet.own) * usize::from(sheet.partner) {
+    } else if keys < usize::from(sheet.frame.own) * usize::from(sheet.frame.partner) {
         writeln!(f, "\n  no other move")
     } else {
         writeln!(f)
@@ -78,22 +78,21 @@ fn write_heading<W: Write>(
     state: u16,
 ) -> fmt::Result {
     let label = sheet.label(state);
-    let start = if state == sheet.start { ", start" } else { "" };
+    let start = if state == sheet.frame.start {
+        ", start"
+    } else {
+        ""
+    };
     write!(f, "state {state} (label {label}{start}):")
 }
 
 /// The sizes, then the moves of each state.
 pub(crate) fn write<W: Write>(f: &mut Formatter<W>, sheet: &MachineSheet<'_>) -> fmt::Result {
-    let sizes = Sizes {
-        states: sheet.states,
-        own: sheet.own,
-        partner: sheet.partner,
-        start: sheet.start,
-    };
+    let sizes = Sizes(sheet.frame);
     let moves = sheet.moves;
     writeln!(f, "machine sheet\n{sizes}moves            {moves:>4}\n")?;
     let mut from = 0;
-    for state in 0..sheet.states {
+    for state in 0..sheet.frame.states {
         // Moves stand in the order of their states, so one walk meets them all.
         let end = end_of(sheet, state, from);
         write_heading(f, sheet, state)?;

@@ -10,8 +10,8 @@ fn write_sizes<W: Write>(f: &mut Formatter<W>, table: &PhaseTable) -> fmt::Resul
          signals of side 1  {}\n\n\
          next phase, by the signals of side 0 (rows) and side 1 (columns)",
         table.phases(),
-        table.signals0(),
-        table.signals1()
+        table.signals(0),
+        table.signals(1)
     )
 }
 
@@ -22,7 +22,7 @@ fn write_row<W: Write>(
     first: u8,
 ) -> fmt::Result {
     write!(f, "{first:>7} |")?;
-    for second in 0..table.signals1() {
+    for second in 0..table.signals(1) {
         write!(f, "  {}", table.next(phase, first, second))?;
     }
     writeln!(f)
@@ -31,11 +31,11 @@ fn write_row<W: Write>(
 /// One table: a row for each signal of side 0, a column for each of side 1.
 fn write_phase<W: Write>(f: &mut Formatter<W>, table: &PhaseTable, phase: u8) -> fmt::Result {
     write!(f, "\nphase {phase} |")?;
-    for second in 0..table.signals1() {
+    for second in 0..table.signals(1) {
         write!(f, "  {second}")?;
     }
     writeln!(f)?;
-    for first in 0..table.signals0() {
+    for first in 0..table.signals(0) {
         write_row(f, table, phase, first)?;
     }
     Ok(())
