@@ -1,7 +1,7 @@
 -- The first fault of a sheet of any kind, and the text that tells it.
-use Rattle.std.specs.Prelude.{◌≡◌, ℕ, List, [], ◌∷◌, ◌++◌, length, Some, None, codes, decimal, Option, nat_le}
+use Rattle.std.specs.Prelude.{◌≡◌, ℕ, List, [], ◌∷◌, ◌++◌, length, Some, None, Option, nat_le}
 use Rattle.reading.specs.Firsts.{first_some, unless}
-use Rattle.reading.specs.Faults.{Fault, fault, length_place}
+use Rattle.reading.specs.Faults.{Fault, fault, length_place, printed}
 use Rattle.reading.specs.MachineSheets.{sheet_in, machine_fault}
 use Rattle.reading.specs.MarkSheets.{mark_fault}
 use Rattle.reading.specs.RuleSheets.{rule_fault}
@@ -28,8 +28,7 @@ product_fault machine rule = first_some (machine_fault machine) (rule_fault (she
 -- a text in two lines: the number and the place of a fault, then what is wrong
 abbrev pub Refuses : Fault → List ℕ → Type 0
 Refuses f text =
-    (why : List ℕ)
-    × (text ≡ codes "refused " ++ (decimal f.number ++ (codes " at byte " ++ (decimal f.place ++ (10 ∷ why ++ 10 ∷ [])))))
+    (why : List ℕ) × (text ≡ printed f ++ (10 ∷ (why ++ 10 ∷ [])))
 
 -- a text tells the fault, if there is one
 abbrev pub Tells : Option Fault → List ℕ → Type 0

@@ -193,8 +193,6 @@ pub(crate) fn refusal<S: fmt::Display + Drop>(
 ) -> Result<String, AllocError>
     ensures { IfOk result (λ text. Refuses (numbers fault) (string_bytes text)) }
 {
-    let number = fault.number();
-    let place = fault.place();
     let why = sentence.to_string(heap)?;
-    format!(in heap; "refused {number} at byte {place}\n{why}\n")
+    format!(in heap; "{fault}\n{why}\n")
 }
