@@ -120,22 +120,12 @@ pub fn product(heap: Global, machine: &[u8], rule: &[u8]) -> Result<String, Allo
 {
     let mut below = SheetMachine::new(heap)?;
     if let Err(fault) = below.load(machine) {
-        let why = Sentence {
-            kind: Kind::Machine,
-            bytes: machine,
-            fault,
-        };
-        return refusal(heap, fault, why);
+        return refusal(heap, fault, Sentence::new(Kind::Machine, machine, fault));
     }
     let states = below.states();
     let mut game = Watched::new(below);
     if let Err(fault) = game.watch(rule) {
-        let why = Sentence {
-            kind: Kind::Rule(states),
-            bytes: rule,
-            fault,
-        };
-        return refusal(heap, fault, why);
+        return refusal(heap, fault, Sentence::new(Kind::Rule(states), rule, fault));
     }
     let count = game.states() / states;
     WatchedWords { game: &game, count }.to_string(heap)

@@ -19,9 +19,15 @@ const UNLAWFUL: &str = "The sheet is not lawful there.";
 /// What is wrong with a refused sheet, as a sentence.
 #[derive(Clone, Copy)]
 pub(crate) struct Sentence<'a> {
-    pub kind: Kind,
-    pub bytes: &'a [u8],
-    pub fault: ReadFault,
+    kind: Kind,
+    bytes: &'a [u8],
+    fault: ReadFault,
+}
+
+impl<'a> Sentence<'a> {
+    pub(crate) fn new(kind: Kind, bytes: &'a [u8], fault: ReadFault) -> Sentence<'a> {
+        Sentence { kind, bytes, fault }
+    }
 }
 
 impl fmt::Display for Sentence<'_> {

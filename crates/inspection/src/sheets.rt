@@ -74,6 +74,6 @@ pub fn inspect(heap: Global, kind: Kind, bytes: &[u8]) -> Result<String, AllocEr
 {
     match Sheet::read(kind, bytes) {
         Ok(sheet) => sheet.to_string(heap),
-        Err(fault) => refusal(heap, fault, Sentence { kind, bytes, fault }),
+        Err(fault) => refusal(heap, fault, Sentence::new(kind, bytes, fault)),
     }
 }
