@@ -3,7 +3,8 @@ use Rattle.std.specs.Prelude.{◌≡◌, ℕ, true, false, Some, None}
 use Rattle.games.specs.Machines.{goal_in}
 use Rattle.games.specs.declared.deal.Terms.{Terms}
 use Rattle.games.specs.declared.deal.talk.TalkFault.TheVariants.{TooFar}
-use Rattle.games.specs.Deals.{numbers, are_terms, first_gap}
+use Rattle.games.specs.Terms.{are_terms}
+use Rattle.games.specs.Deals.{numbers, first_gap}
 use Rattle.trials.specs.Toggles.{watched_toggle, toggle_marks}
 
 -- the watched toggle has 4 states, start 0 and goals 1 and 3; under signals 1 and 1 state 0 moves to 3 only

@@ -327,7 +327,11 @@ fn records_say(rt: HostRuntime) -> Result<(), Fail> {
     assert_eq!(rt; (plan.choice(at(0, 0)), plan.choice(at(2, 0))), (1, 255));
     assert_eq!(rt; (plan.choice(at(0, 1)), plan.choice(at(4, 0))), (255, 255));
     assert_eq!(rt;
-        (plan.rank(at(0, 0)), plan.rank(at(2, 0)), plan.rank(at(3, 0))),
+        (
+            plan.rank(at(0, 0)),
+            plan.rank(at(2, 0)),
+            plan.rank(at(3, 0))
+        ),
         (257, 65535, 0)
     );
     assert_eq!(rt; (plan.rank(at(0, 1)), plan.rank(at(4, 0))), (65535, 65535));
