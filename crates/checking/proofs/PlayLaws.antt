@@ -7,7 +7,7 @@ use Rattle.games.proofs.SetLaws.{has_low}
 use Rattle.checking.specs.declared.state_set.StateSet.{StateSet}
 use Rattle.games.specs.declared.deal.Deal.{Deal}
 use Rattle.checking.specs.declared.snapshot.Snapshot.{Snapshot}
-use Rattle.checking.specs.declared.play.Play.{Play}
+use Rattle.checking.specs.declared.seat.Seat.{Seat}
 use Rattle.checking.specs.StateSets.{member, nothing}
 use Rattle.checking.specs.Arenas.{follow}
 use Rattle.checking.specs.Snapshots.{row_of, snap_arena, played}
@@ -36,18 +36,18 @@ snap_bounded z t d side = record {
   promises = λ p x e. has_low width (pick side d.promise0 d.promise1) p x e;
 }
 
-pub bounded : (y : Play) → Bounded (played y)
-bounded y = snap_bounded y.snapshot.now y.table.now y.deal.now y.side
+pub bounded : (y : Seat Snapshot) → Bounded (played y)
+bounded y = snap_bounded y.game.now y.table.now y.deal.now y.side
 
-module _ (y : Play) (sets : List StateSet) (s p x b q : ℕ) (hs : s < y.snapshot.now.states) (hx : x < 4) (hb : b < 4) (e : q ≡ follow y.table.now y.side p x b) where
+module _ (y : Seat Snapshot) (sets : List StateSet) (s p x b q : ℕ) (hs : s < y.game.now.states) (hx : x < 4) (hb : b < 4) (e : q ≡ follow y.table.now y.side p x b) where
   abbrev row : StateSet
-  row = row_of (vec_items y.snapshot.now.rows) s x b
+  row = row_of (vec_items y.game.now.rows) s x b
 
   pub answered_from : (t : ℕ) × (member row t ≡ true) → ((t : ℕ) → member row t ≡ true → member (get_or sets q nothing) t ≡ true) → Answered (played y) sets s p x b
   answered_from some inside = record {
-    goes = (some.0, move_row y.snapshot.now.states (vec_items y.snapshot.now.rows) s x b hs hx hb some.0 ∙ some.1);
-    into = λ t m. rw e at (inside t (sym (move_row y.snapshot.now.states (vec_items y.snapshot.now.rows) s x b hs hx hb t) ∙ m));
+    goes = (some.0, move_row y.game.now.states (vec_items y.game.now.rows) s x b hs hx hb some.0 ∙ some.1);
+    into = λ t m. rw e at (inside t (sym (move_row y.game.now.states (vec_items y.game.now.rows) s x b hs hx hb t) ∙ m));
   }
 
   pub answered_to : Answered (played y) sets s p x b → (t : ℕ) → member row t ≡ true → member (get_or sets q nothing) t ≡ true
-  answered_to w t m = rw e (w.into t (move_row y.snapshot.now.states (vec_items y.snapshot.now.rows) s x b hs hx hb t ∙ m))
+  answered_to w t m = rw e (w.into t (move_row y.game.now.states (vec_items y.game.now.rows) s x b hs hx hb t ∙ m))

@@ -2,7 +2,6 @@ ghost use Rattle.std.specs.Prelude.{◌≡◌, IfOk, vec_len};
 ghost use Rattle.checking.specs.Solutions.{Solves};
 
 use crate::faults::SolveFault;
-use crate::play::Play;
 use crate::ranking::Ranking;
 use crate::seat::Seat;
 use crate::snapshot::Snapshot;
@@ -55,17 +54,17 @@ pub fn solve<'a, G: Game>(
         return Err(SolveFault::Buffer);
     }
     workspace.snapshot.take(game);
-    let play = Play {
-        snapshot: &workspace.snapshot,
+    let played = Seat {
+        game: &workspace.snapshot,
         table,
         deal,
         side,
     };
-    workspace.ranking.settle(&play);
-    if workspace.ranking.rank(play.snapshot.start(), 0) == 65535 {
+    workspace.ranking.settle(&played);
+    if workspace.ranking.rank(played.game.start(), 0) == 65535 {
         return Err(SolveFault::NoController);
     }
-    workspace.ranking.write(&play, buffer);
+    workspace.ranking.write(&played, buffer);
     match Record::read(buffer) {
         Ok(solved) => Ok(solved.bound()),
         Err(_) => unreachable(),

@@ -2,48 +2,49 @@ ghost use Rattle.std.specs.Prelude.{◌≡◌, ℕ, ◌+◌, ◌<◌, false, Mat
 ghost use Rattle.checking.specs.Snapshots.{played};
 ghost use Rattle.checking.specs.Solving.{ranks_in, zeros, Tracks, Layers, Joining, Barred};
 
-use crate::play::Play;
 use crate::ranking::Ranking;
+use crate::seat::Seat;
+use crate::snapshot::Snapshot;
 
 /// Stands for no rank.
 const NO_RANK: u16 = 65535;
 
 impl Ranking {
     /// The signal by which a position joins the next layer: it has no rank, is no goal and not forbidden, and is led into the ranked sets.
-    fn joining(&self, play: &Play<'_>, state: u16, phase: u8) -> Option<u8>
-        requires state { state < play.now.snapshot.now.states }
-        requires phase { phase < play.now.table.now.phases }
-        ensures { MatchOption result (Barred (played play.now) self.now state phase) (Joining (played play.now) self.now state phase) }
+    fn joining(&self, seat: &Seat<'_, Snapshot>, state: u16, phase: u8) -> Option<u8>
+        requires state { state < seat.now.game.now.states }
+        requires phase { phase < seat.now.table.now.phases }
+        ensures { MatchOption result (Barred (played seat.now) self.now state phase) (Joining (played seat.now) self.now state phase) }
     {
         if self.rank(state, phase) != NO_RANK {
             return None;
         }
-        if play.snapshot.is_goal(state) {
+        if seat.game.is_goal(state) {
             return None;
         }
-        if play.snapshot.forbids(state) {
+        if seat.game.forbids(state) {
             return None;
         }
-        play.first(&self.ranked, state, phase)
+        seat.first(&self.ranked, state, phase)
     }
 
     /// Adds a layer: the positions led into the ranks below its depth. Whether there are any.
-    fn add_layer(&mut self, play: &Play<'_>, depth: u16) -> bool
+    fn add_layer(&mut self, seat: &Seat<'_, Snapshot>, depth: u16) -> bool
         requires some { 0 < depth }
         requires few { depth < 65535 }
-        requires layers { Layers (played play.now) self.old depth depth }
-        requires tracks { Tracks (played play.now) self.old.ranked (ranks_in (played play.now) self.old) depth }
-        ensures layers { Layers (played play.now) self.new (depth + 1) (depth + 1) }
-        ensures tracks { Tracks (played play.now) self.new.ranked (ranks_in (played play.now) self.new) (depth + 1) }
-        ensures stops { result ≡ false → Layers (played play.now) self.new depth (depth + 1) }
+        requires layers { Layers (played seat.now) self.old depth depth }
+        requires tracks { Tracks (played seat.now) self.old.ranked (ranks_in (played seat.now) self.old) depth }
+        ensures layers { Layers (played seat.now) self.new (depth + 1) (depth + 1) }
+        ensures tracks { Tracks (played seat.now) self.new.ranked (ranks_in (played seat.now) self.new) (depth + 1) }
+        ensures stops { result ≡ false → Layers (played seat.now) self.new depth (depth + 1) }
         ensures zeros { zeros self.new ≡ zeros self.old }
     {
         // what joins this layer leads to no position of this layer
         let mut next = self.ranked;
         let mut added = false;
-        for phase in 0..play.table.phases() {
-            for state in 0..play.snapshot.states() {
-                if let Some(own) = self.joining(play, state, phase) {
+        for phase in 0..seat.table.phases() {
+            for state in 0..seat.game.states() {
+                if let Some(own) = self.joining(seat, state, phase) {
                     self.give(state, phase, depth, own);
                     next[phase as usize].insert(state);
                     added = true;
@@ -55,15 +56,15 @@ impl Ranking {
     }
 
     /// Ranks every position from which the side comes to a target.
-    pub(crate) fn attract(&mut self, play: &Play<'_>)
-        requires layers { Layers (played play.now) self.old 1 1 }
-        requires tracks { Tracks (played play.now) self.old.ranked (ranks_in (played play.now) self.old) 1 }
-        ensures layers { Layers (played play.now) self.new 65535 65535 }
-        ensures tracks { Tracks (played play.now) self.new.ranked (ranks_in (played play.now) self.new) 65535 }
+    pub(crate) fn attract(&mut self, seat: &Seat<'_, Snapshot>)
+        requires layers { Layers (played seat.now) self.old 1 1 }
+        requires tracks { Tracks (played seat.now) self.old.ranked (ranks_in (played seat.now) self.old) 1 }
+        ensures layers { Layers (played seat.now) self.new 65535 65535 }
+        ensures tracks { Tracks (played seat.now) self.new.ranked (ranks_in (played seat.now) self.new) 65535 }
         ensures zeros { zeros self.new ≡ zeros self.old }
     {
         for depth in 1..NO_RANK {
-            if !self.add_layer(play, depth) {
+            if !self.add_layer(seat, depth) {
                 return;
             }
         }

@@ -3,8 +3,9 @@ ghost use Rattle.reading.specs.Bytes.{byte, pair};
 ghost use Rattle.checking.specs.Snapshots.{played};
 ghost use Rattle.checking.specs.Solving.{Entry, Wrote};
 
-use crate::play::Play;
 use crate::ranking::Ranking;
+use crate::seat::Seat;
+use crate::snapshot::Snapshot;
 
 /// Two bytes of a number, the low byte first.
 fn put_pair(buffer: &mut [u8], place: usize, number: u16)
@@ -30,15 +31,15 @@ fn put_entry(buffer: &mut [u8], size: usize, place: usize, choice: u8, rank: u16
 
 impl Ranking {
     /// Writes the record that holds the ranks and choices.
-    pub(crate) fn write(&self, play: &Play<'_>, buffer: &mut [u8])
-        requires { length buffer.old ≡ 4 + 3 * (play.now.snapshot.now.states * play.now.table.now.phases) }
-        ensures { Wrote (played play.now) self.now buffer.new }
+    pub(crate) fn write(&self, seat: &Seat<'_, Snapshot>, buffer: &mut [u8])
+        requires { length buffer.old ≡ 4 + 3 * (seat.now.game.now.states * seat.now.table.now.phases) }
+        ensures { Wrote (played seat.now) self.now buffer.new }
     {
-        let phases = play.table.phases();
-        let size = play.snapshot.states() as usize * phases as usize;
-        put_pair(buffer, 0, play.snapshot.states());
+        let phases = seat.table.phases();
+        let size = seat.game.states() as usize * phases as usize;
+        put_pair(buffer, 0, seat.game.states());
         buffer[2] = phases;
-        buffer[3] = play.snapshot.own();
+        buffer[3] = seat.game.own();
         for place in 0..size {
             let state = (place / phases as usize) as u16;
             let phase = (place % phases as usize) as u8;

@@ -15,7 +15,7 @@ loop-state-init c = (c.loop-phase.invariant.0, λ e. (e, refl), refl)
 
 pub loop-state-preserved : goal.loop-state-preserved
 loop-state-preserved c =
-    let y = c.args.play.now in
+    let y = c.args.seat.now in
     let b = bounded y in
     let i = c.loop-state.invariant in
     let hs : c.loop-state.state < (played y).states = omega (arith, c.states-state-end.ensures, c.loop-state-test.true) in
@@ -34,7 +34,7 @@ loop-state-preserved c =
 
 pub loop-phase-preserved : goal.loop-phase-preserved
 loop-phase-preserved c = let i = c.loop-state.invariant in (
-  layering_turn _ (bounded c.args.play.now) _ _ _ _ c.loop-state.state i.0 (omega (arith, c.states-state-end.ensures, c.loop-state-test.false)),
+  layering_turn _ (bounded c.args.seat.now) _ _ _ _ c.loop-state.state i.0 (omega (arith, c.states-state-end.ensures, c.loop-state-test.false)),
   λ e. (let h = i.1 e in h.1 ∙ c.loop-phase.invariant.1 h.0),
   i.2 ∙ c.loop-phase.invariant.2,
 )
@@ -42,10 +42,10 @@ loop-phase-preserved c = let i = c.loop-state.invariant in (
 pub returns : goal.returns
 returns c =
     let i = c.loop-phase.invariant in
-    let end : (played c.args.play.now).phases ≤ c.loop-phase.phase = omega (arith, c.phases-phase-end.ensures, c.loop-phase-test.false) in
+    let end : (played c.args.seat.now).phases ≤ c.loop-phase.phase = omega (arith, c.phases-phase-end.ensures, c.loop-phase-test.false) in
     record {
-      layers = layering_done (played c.args.play.now) c.loop-phase.self _ _ c.loop-phase.phase end i.0;
+      layers = layering_done (played c.args.seat.now) c.loop-phase.self _ _ c.loop-phase.phase end i.0;
       tracks = i.0.coming;
-      stops = λ e. layering_quiet (played c.args.play.now) c.loop-phase.self _ _ c.loop-phase.phase end i.0 c.args.self.now c.requires.layers (i.1 e);
+      stops = λ e. layering_quiet (played c.args.seat.now) c.loop-phase.self _ _ c.loop-phase.phase end i.0 c.args.self.now c.requires.layers (i.1 e);
       zeros = i.2;
     }

@@ -8,8 +8,8 @@ pub returns-then-not-add_layer : goal.returns-then-not-add_layer
 returns-then-not-add_layer c =
     let s = c.add_layer.ensures.stops c.if-not-add_layer.true in
     record {
-      layers = layer_stops (played c.args.play.now) _ _ c.loop-depth.depth (omega arith) (omega arith) s;
-      tracks = tracks_top (played c.args.play.now) _ _ _ 65535 (omega arith) (λ t q h. omega (arith, s.low t q h)) c.add_layer.ensures.tracks;
+      layers = layer_stops (played c.args.seat.now) _ _ c.loop-depth.depth (omega arith) (omega arith) s;
+      tracks = tracks_top (played c.args.seat.now) _ _ _ 65535 (omega arith) (λ t q h. omega (arith, s.low t q h)) c.add_layer.ensures.tracks;
       zeros = c.add_layer.ensures.zeros ∙ c.loop-depth.invariant.2;
     }
 

@@ -5,6 +5,6 @@ use Rattle.checking.proofs.ranking.Ranking.attract.Given as goal
 
 abbrev pub invariant-loop-depth : goal.invariant-loop-depth
 invariant-loop-depth l =
-    Layers (played l.play) l.self l.depth l.depth
-    × Tracks (played l.play) l.self.ranked (ranks_in (played l.play) l.self) l.depth
+    Layers (played l.seat) l.self l.depth l.depth
+    × Tracks (played l.seat) l.self.ranked (ranks_in (played l.seat) l.self) l.depth
     × (zeros l.self ≡ zeros l.initial.self)

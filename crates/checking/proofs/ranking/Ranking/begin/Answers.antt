@@ -8,4 +8,4 @@ pub loop-i-preserved : goal.loop-i-preserved
 loop-i-preserved c = fill_by_more (λ _. 0) _ _ 0 (omega arith) c.loop-i.invariant
 
 pub returns : goal.returns
-returns c = zero_least _ (bounded c.args.play.now) c.loop-i.self (λ j h. c.loop-i.invariant j (omega arith))
+returns c = zero_least _ (bounded c.args.seat.now) c.loop-i.self (λ j h. c.loop-i.invariant j (omega arith))

@@ -14,12 +14,12 @@ joined a z s p e o None never = λ _ _. never
 
 pub returns-then-rank : goal.returns-then-rank
 returns-then-rank c =
-    let y = c.args.play.now in
+    let y = c.args.seat.now in
     λ e _ _ _. c.if-rank.true (c.rank.ensures ∙ sym (rank_here (played y) (bounded y) c.args.state c.args.phase c.requires.state c.requires.phase c.args.self.now) ∙ e)
 
 pub returns : goal.returns
 returns c =
-    let y = c.args.play.now in
+    let y = c.args.seat.now in
     joined (played y) c.args.self.now c.args.state c.args.phase
     (rank_here (played y) (bounded y) c.args.state c.args.phase c.requires.state c.requires.phase c.args.self.now ∙ sym c.rank.ensures ∙ c.if-rank.false)
     (record { state = c.requires.state; phase = c.requires.phase; no_goal = sym c.if-is_goal.ensures; safe = sym c.if-forbids.ensures })

@@ -14,7 +14,7 @@ loop-state-init c = λ old tr l i. i
 
 pub loop-state-preserved : goal.loop-state-preserved
 loop-state-preserved c = λ old tr l i₀.
-    let y = c.args.play.now in
+    let y = c.args.seat.now in
     let b = bounded y in
     let i = c.loop-state.invariant old tr l i₀ in
     let hs : c.loop-state.state < (played y).states = omega (arith, c.states-state-end.ensures, c.loop-state-test.true) in
@@ -32,7 +32,7 @@ loop-state-preserved c = λ old tr l i₀.
 
 pub loop-phase-preserved : goal.loop-phase-preserved
 loop-phase-preserved c =
-    let y = c.args.play.now in
+    let y = c.args.seat.now in
     pruning_turn (played y) (bounded y) c.args.self.now c.loop-state.self c.loop-phase.phase c.loop-state.state _ c.requires.tracks c.requires.layers
     (c.loop-state.invariant c.args.self.now c.requires.tracks c.requires.layers c.loop-phase.invariant) (omega (arith, c.states-state-end.ensures, c.loop-state-test.false))
 

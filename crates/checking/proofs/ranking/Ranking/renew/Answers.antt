@@ -6,7 +6,7 @@ use Rattle.checking.proofs.ranking.Ranking.renew.Goals as goal
 
 pub returns-in-Some : goal.returns-in-Some
 returns-in-Some c =
-    let y = c.args.play.now in
+    let y = c.args.seat.now in
     let g = c.give.ensures in (
       g.sets,
       λ e. record {
@@ -19,7 +19,7 @@ returns-in-Some c =
 
 pub returns-in-None : goal.returns-in-None
 returns-in-None c =
-    let y = c.args.play.now in
+    let y = c.args.seat.now in
     let g = c.give-in-None.ensures in (
       g.sets,
       record {

@@ -16,7 +16,7 @@ loop-state-init c = (c.loop-phase.invariant.0, rw c.empty-set.ensures (gather_no
 
 pub loop-state-preserved : goal.loop-state-preserved
 loop-state-preserved c =
-    let y = c.args.play.now in
+    let y = c.args.seat.now in
     let b = bounded y in
     let i = c.loop-state.invariant in
     let hs : c.loop-state.state < (played y).states = omega (arith, c.states-state-end.ensures, c.loop-state-test.true) in
@@ -38,7 +38,7 @@ loop-state-preserved c =
 
 pub loop-phase-preserved : goal.loop-phase-preserved
 loop-phase-preserved c =
-    let y = c.args.play.now in
+    let y = c.args.seat.now in
     let i = c.loop-state.invariant in (
       resetting_turn (played y) (bounded y) c.loop-state.self _ c.loop-phase.phase c.loop-state.state _ (omega (arith, c.states-state-end.ensures, c.loop-state-test.false)) (omega (arith, c.phases-phase-end.ensures, c.loop-phase-test.true)) i.0 i.1 refl refl refl,
       omega (arith, i.2, c.loop-phase.invariant.1),

@@ -38,7 +38,7 @@ module _ (a : Arena) (b : Bounded a) (k n p : ℕ) (en : n ≡ a.states) (ep : p
 
 pub choice-choice-requires : goal.choice-choice-requires
 choice-choice-requires c =
-    let y = c.args.play.now in
+    let y = c.args.seat.now in
     record {
       state = few_state (played y) (bounded y) c.loop-place.place _ _ c.states.ensures c.phases-phases.ensures c.loop-place-test.true;
       phase = few_phase (played y) (bounded y) c.loop-place.place _ _ c.states.ensures c.phases-phases.ensures c.loop-place-test.true;
@@ -46,7 +46,7 @@ choice-choice-requires c =
 
 pub rank-rank-requires : goal.rank-rank-requires
 rank-rank-requires c =
-    let y = c.args.play.now in
+    let y = c.args.seat.now in
     record {
       state = few_state (played y) (bounded y) c.loop-place.place _ _ c.states.ensures c.phases-phases.ensures c.loop-place-test.true;
       phase = few_phase (played y) (bounded y) c.loop-place.place _ _ c.states.ensures c.phases-phases.ensures c.loop-place-test.true;
@@ -54,7 +54,7 @@ rank-rank-requires c =
 
 pub loop-place-preserved : goal.loop-place-preserved
 loop-place-preserved c =
-    let y = c.args.play.now in
+    let y = c.args.seat.now in
     let e : c.states.result * c.phases-phases.result ≡ (played y).states * (played y).phases = ap (λ i. i * c.phases-phases.result) c.states.ensures ∙ ap (λ i. (played y).states * i) c.phases-phases.ensures in
     writing_next (played y) c.args.self.now _ _ c.loop-place.place c.loop-place.invariant (omega (arith, e, c.loop-place-test.true)) c.put_entry.ensures.head
     (entry_is (played y) (bounded y) c.loop-place.place _ _ c.states.ensures c.phases-phases.ensures c.loop-place-test.true c.args.self.now _ _ _ c.choice-choice.ensures c.rank-rank.ensures c.put_entry.ensures.entry)
@@ -62,6 +62,6 @@ loop-place-preserved c =
 
 pub returns : goal.returns
 returns c =
-    let y = c.args.play.now in
+    let y = c.args.seat.now in
     let e : c.states.result * c.phases-phases.result ≡ (played y).states * (played y).phases = ap (λ i. i * c.phases-phases.result) c.states.ensures ∙ ap (λ i. (played y).states * i) c.phases-phases.ensures in
     writing_done (played y) c.args.self.now (bounded y) _ c.loop-place.place (c.loop-place.auto.buffer ∙ simp length-set c.put_pair.auto.buffer ∙ c.requires) (omega (arith, e, c.loop-place-test.false)) c.loop-place.invariant

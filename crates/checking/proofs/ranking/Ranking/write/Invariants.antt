@@ -3,4 +3,4 @@ use Rattle.checking.proofs.WriteLaws.{Writing}
 use Rattle.checking.proofs.ranking.Ranking.write.Given as goal
 
 abbrev pub invariant-loop-place : goal.invariant-loop-place
-invariant-loop-place l = Writing (played l.play) l.self l.buffer l.place
+invariant-loop-place l = Writing (played l.seat) l.self l.buffer l.place

@@ -1,7 +1,7 @@
 use Rattle.std.proofs.Common.{refl, inl, inr, arith, below_more}
 use Rattle.std.proofs.lemmas.Bool.{false≢true, cases_lt}
 use Rattle.checking.proofs.PlayLaws.{bounded}
-use Rattle.checking.proofs.play.Play.first.Goals as goal
+use Rattle.checking.proofs.seat.leads.Seat+Snapshot.first.Goals as goal
 
 pub returns-then-leads : goal.returns-then-leads
 returns-then-leads c = record {

@@ -1,6 +1,6 @@
 use Rattle.std.proofs.Common.{refl, arith}
 use Rattle.checking.proofs.PlayLaws.{follow_low, answered_from, answered_to}
-use Rattle.checking.proofs.play.Play.answered.Goals as goal
+use Rattle.checking.proofs.seat.leads.Seat+Snapshot.answered.Goals as goal
 
 pub bounds-sets-follow : goal.bounds-sets-follow
 bounds-sets-follow c =
