@@ -15,8 +15,7 @@ use reading::records::{NO_CHOICE, NO_RANK, Position, Record};
 fn keeps(plan: &Record<'_>, state: u16, phase: u8) -> bool
     ensures { result ≡ keeps (plan_of (parts_of plan.now)) state phase }
 {
-    !(plan.choice(Position { state, phase }) == NO_CHOICE
-        && plan.rank(Position { state, phase }) == NO_RANK)
+    !(plan.choice(Position { state, phase }) == NO_CHOICE && plan.rank(Position { state, phase }) == NO_RANK)
 }
 
 impl<G: Game> Seat<'_, G> {
@@ -44,12 +43,7 @@ impl<G: Game> Seat<'_, G> {
                 next,
             });
         }
-        if self.game.goal(state)
-            || plan.rank(Position {
-                state: next,
-                phase: follow,
-            }) < plan.rank(Position { state, phase })
-        {
+        if self.game.goal(state) || plan.rank(Position { state: next, phase: follow }) < plan.rank(Position { state, phase }) {
             return None;
         }
         Some(CheckFault::NotLower {
