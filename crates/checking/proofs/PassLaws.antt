@@ -9,7 +9,7 @@ use Rattle.checking.specs.Arenas.{Arena}
 use Rattle.checking.specs.Controllers.{Plan, Kept, Rival}
 use Rattle.checking.specs.Solving.{held, Lowest, Tracks, Least, Stable, Layers, Bounded, Before, Written, ranks_in, choices_in, zeros, Layering, Joining, Barred, Target, Fresh, Resetting, Pruning, Chosen, Dropped}
 use Rattle.checking.proofs.PlaceLaws.{held_in, held_or, before_none, before_next, before_turn, before_all}
-use Rattle.checking.proofs.SnapshotLaws.{Gathered, gather_skip, gathered_in}
+use Rattle.checking.proofs.SnapshotLaws.{Gathered, gather_skip}
 use Rattle.checking.proofs.AttractorLaws.{leads_into, first_lowest, rival_leads, layered_least, full_else, layer_done, layered_stable, written_all, full_join, join, fresh_none, fresh_zero, fresh_layers}
 
 -- a rank that is not d is below d exactly if it is below d + 1
@@ -114,7 +114,7 @@ resetting_start a z least = record {
 
 -- the states of a phase, before state s, whose rank is 0
 abbrev pub KeptIn : Arena → Ranking → ℕ → StateSet → ℕ → Type 0
-KeptIn a z p set s = Gathered (λ t. ltb (ranks_in a z t p) 1) set s
+KeptIn a z p set s = Gathered (λ t b. b ≡ ltb (ranks_in a z t p) 1) set s
 
 module _ (a : Arena) (z : Ranking) (p s : ℕ) (hs : s < a.states) (hp : p < a.phases) (i : Resetting a z p s) where
   pub resetting_keep : Target a z s p → Resetting a z p (s + 1)
@@ -142,10 +142,7 @@ module _ (a : Arena) (z : Ranking) (p s : ℕ) (hs : s < a.states) (hp : p < a.p
         other t q n = elim (w.there t q) [ inl e ↦ e.0 | inr e ↦ absurd (n e.1) ]
 
     pub kept_clear : (set : StateSet) → KeptIn a z p set s → KeptIn a new p set (s + 1)
-    kept_clear set g = gather_skip _ set s (λ u. g u ∙ (elim (cases_lt u s) [
-      | inl l ↦ ap (λ n. ltb u s && ltb n 1) (sym (earlier u l))
-      | inr l ↦ ap (λ c. c && ltb (ranks_in a z u p) 1) (le-ltb u s l) ∙ sym (ap (λ c. c && ltb (ranks_in a new u p) 1) (le-ltb u s l))
-    ])) (ap (λ n. ltb n 1) w.rank)
+    kept_clear set g = gather_skip _ set s (record { below = λ u l. g.below u l ∙ ap (λ n. ltb n 1) (sym (earlier u l)); above = g.above }) (ap (λ n. ltb n 1) (sym w.rank))
       where
         earlier : (u : ℕ) → u < s → ranks_in a new u p ≡ ranks_in a z u p
         earlier u l = elim (w.there u p) [ inl e ↦ e.0 | inr e ↦ absurd (omega (arith, e.0)) ]
@@ -166,17 +163,13 @@ resetting_turn a b z new p s set₁ end hp i g er ec es = record {
     choice_same t q = ap (λ l. held a 255 l t q) ec
 
     whole : (t : ℕ) → member set₁ t ≡ ltb (ranks_in a z t p) 1
-    whole t = elim (cases_lt t a.states) [
-      | inl l ↦ gathered_in _ set₁ s g t (omega arith)
+    whole t = elim (cases_lt t s) [
+      | inl l ↦ g.below t l
       | inr l ↦ elim (held_or a t p) [
-        | inl o ↦ (let none : ltb (ranks_in a z t p) 1 ≡ false = ap (λ n. ltb n 1) (o 65535 (vec_items z.ranks)) in g t ∙ right (ltb t s) (ltb (ranks_in a z t p) 1) none ∙ sym none)
-        | inr h ↦ absurd (omega (arith, h.0))
+        | inl o ↦ g.above t l ∙ sym (ap (λ n. ltb n 1) (o 65535 (vec_items z.ranks)))
+        | inr h ↦ absurd (omega (arith, h.0, l, end))
       ]
     ]
-      where
-        right : (x y : Bool) → y ≡ false → (x && y) ≡ false
-        right true y h = h
-        right false y h = refl
 
     at : (t q : ℕ) → q < p + 1 → member (get_or (set z.ranked p set₁) q nothing) t ≡ ltb (ranks_in a z t q) 1
     at t q h = elim (cases_eq q p) [

@@ -1,7 +1,7 @@
 ghost use Rattle.std.specs.Prelude.{◌≡◌, ◌<◌};
 ghost use Rattle.checking.specs.Snapshots.{row_of, snap_forbidden, snap_goal};
 
-use crate::snapshot::Snapshot;
+use crate::snapshot::{Snapshot, place};
 use crate::state_set::StateSet;
 
 impl Snapshot {
@@ -33,7 +33,7 @@ impl Snapshot {
         requires partner { partner < 4 }
         ensures { result ≡ row_of self.now.rows.items state own partner }
     {
-        self.rows[16 * state as usize + 4 * own as usize + partner as usize]
+        self.rows[place(state, own, partner)]
     }
 
     /// Whether a state is forbidden.

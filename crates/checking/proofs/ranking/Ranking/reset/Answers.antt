@@ -1,4 +1,4 @@
-use Rattle.std.proofs.Common.{◌<◌, ltb, refl, ap, arith}
+use Rattle.std.proofs.Common.{◌<◌, ltb, sym, refl, ap, arith}
 use Rattle.std.proofs.lemmas.Bool.{false≢true}
 use Rattle.checking.specs.Snapshots.{played}
 use Rattle.checking.proofs.PlayLaws.{bounded}
@@ -24,7 +24,7 @@ loop-state-preserved c =
     elim c.if-is_target.branch [
       | then-is_target w ↦ (let t = w.if-is_target.ensures.0 refl in rw (w.self-is, w.set-is) (
         resetting_keep _ _ _ _ hs hp i.0 t,
-        gather_put _ _ c.loop-state.state i.1 _ w.insert.ensures (ap (λ n. ltb n 1) t.zero),
+        gather_put _ _ c.loop-state.state i.1 _ w.insert.ensures (ap (λ n. ltb n 1) (sym t.zero)),
         i.2,
       ))
       | else-is_target w ↦ (let e = w.give.ensures in
