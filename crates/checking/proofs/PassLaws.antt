@@ -1,13 +1,15 @@
 -- What a pass over the positions knows on its way: layer by layer, giving up goals, keeping the targets alone.
-use Rattle.std.proofs.Common.{◌≡◌, ℕ, ◌+◌, ◌*◌, ◌<◌, ◌≤◌, Bool, true, false, ◌&&◌, ◌||◌, eqb, ltb, ◌≢◌, List, [], length, get_or, set, vec_items, sym, refl, ap, ◌∙◌, subst, inl, inr, arith, length-set, get_or-set_other, get_or-set_same}
+use Rattle.std.proofs.Common.{◌≡◌, ℕ, ◌+◌, ◌*◌, ◌<◌, ◌≤◌, Bool, true, false, ◌||◌, eqb, ltb, ◌≢◌, List, length, get_or, set, vec_items, replicate, sym, refl, ap, ◌∙◌, subst, inl, inr, arith, length-set, get_or-set_other, get_or-set_same}
 use mathlib.Core.Path.{fun_ext}
+use Rattle.std.proofs.lemmas.List.{get_or-replicate}
 use Rattle.std.proofs.lemmas.Bool.{cases_lt, cases_eq, lt-ltb, le-ltb, eq-eqb, ne_eqb, false≢true, true≢false}
 use Rattle.checking.specs.declared.state_set.StateSet.{StateSet}
+use Rattle.checking.specs.declared.ranking.Entry.{Entry}
 use Rattle.checking.specs.declared.ranking.Ranking.{Ranking}
 use Rattle.checking.specs.StateSets.{member, nothing}
 use Rattle.checking.specs.Arenas.{Arena}
 use Rattle.checking.specs.Controllers.{Plan, Kept, Rival}
-use Rattle.checking.specs.Solving.{held, Lowest, Tracks, Least, Stable, Layers, Bounded, Before, Written, ranks_in, choices_in, zeros, Layering, Joining, Barred, Target, Fresh, Resetting, Pruning, Chosen, Dropped}
+use Rattle.checking.specs.Solving.{absent, held, Lowest, Tracks, Least, Stable, Layers, Bounded, Before, Written, ranks_in, choices_in, zeros, Layering, Joining, Barred, Target, Fresh, Resetting, Pruning, Chosen, Dropped}
 use Rattle.checking.proofs.PlaceLaws.{held_in, held_or, before_none, before_next, before_turn, before_all}
 use Rattle.checking.proofs.SnapshotLaws.{Gathered, gather_skip}
 use Rattle.checking.proofs.AttractorLaws.{leads_into, first_lowest, rival_leads, layered_least, full_else, layer_done, layered_stable, written_all, full_join, join, fresh_none, fresh_zero, fresh_layers}
@@ -91,7 +93,7 @@ module _ (a : Arena) (z : Ranking) (next : List StateSet) (d p : ℕ) (end : a.p
   layering_done = layer_done a _ _ (d + 1) d i.layered (before_all a _ p end i.done)
 
   -- nothing was added to layers that were there before
-  pub layering_quiet : (old : Ranking) → Layers a old d d → vec_items z.ranks ≡ vec_items old.ranks → Layers a z d (d + 1)
+  pub layering_quiet : (old : Ranking) → Layers a old d d → vec_items z.entries ≡ vec_items old.entries → Layers a z d (d + 1)
   layering_quiet old l e = layer_done a _ _ d d
       (record {
         grown = i.layered.grown;
@@ -101,7 +103,7 @@ module _ (a : Arena) (z : Ranking) (next : List StateSet) (d p : ℕ) (end : a.p
       (before_all a _ p end i.done)
     where
       same : (s q : ℕ) → ranks_in a z s q ≡ ranks_in a old s q
-      same s q = ap (λ k. held a 65535 k s q) e
+      same s q = ap (λ k. (held a k s q).rank) e
 
 -- keeping the targets alone
 
@@ -149,24 +151,24 @@ module _ (a : Arena) (z : Ranking) (p s : ℕ) (hs : s < a.states) (hp : p < a.p
 
 -- the set of a whole phase
 pub resetting_turn : (a : Arena) (b : Bounded a) (z new : Ranking) (p s : ℕ) (set₁ : StateSet) → a.states ≤ s → p < a.phases → Resetting a z p s → KeptIn a z p set₁ s
-    → vec_items new.ranks ≡ vec_items z.ranks → vec_items new.choices ≡ vec_items z.choices → new.ranked ≡ set z.ranked p set₁ → Resetting a new (p + 1) 0
-resetting_turn a b z new p s set₁ end hp i g er ec es = record {
+    → vec_items new.entries ≡ vec_items z.entries → new.ranked ≡ set z.ranked p set₁ → Resetting a new (p + 1) 0
+resetting_turn a b z new p s set₁ end hp i g e es = record {
   targets = λ r v t q k y. rank_same t q ∙ i.targets r v t q k y;
   done = before_turn a _ p s end (λ t q ht h. rw (rank_same t q, choice_same t q) (i.done t q ht h));
   sets = λ t q h. ap (λ l. member (get_or l q nothing) t) es ∙ at t q h ∙ ap (λ n. ltb n 1) (sym (rank_same t q));
 }
   where
     rank_same : (t q : ℕ) → ranks_in a new t q ≡ ranks_in a z t q
-    rank_same t q = ap (λ l. held a 65535 l t q) er
+    rank_same t q = ap (λ l. (held a l t q).rank) e
 
     choice_same : (t q : ℕ) → choices_in a new t q ≡ choices_in a z t q
-    choice_same t q = ap (λ l. held a 255 l t q) ec
+    choice_same t q = ap (λ l. (held a l t q).choice) e
 
     whole : (t : ℕ) → member set₁ t ≡ ltb (ranks_in a z t p) 1
     whole t = elim (cases_lt t s) [
       | inl l ↦ g.below t l
       | inr l ↦ elim (held_or a t p) [
-        | inl o ↦ g.above t l ∙ sym (ap (λ n. ltb n 1) (o 65535 (vec_items z.ranks)))
+        | inl o ↦ g.above t l ∙ sym (ap (λ y. ltb y.rank 1) (o.1 (vec_items z.entries)))
         | inr h ↦ absurd (omega (arith, h.0, l, end))
       ]
     ]
@@ -184,12 +186,9 @@ resetting_turn a b z new p s set₁ end hp i g er ec es = record {
 module _ (a : Arena) (z : Ranking) (p : ℕ) (end : a.phases ≤ p) (i : Resetting a z p 0) where
   pub resetting_layers : Layers a z 1 1
   resetting_layers = fresh_layers a _ _ (λ s q. elim (held_or a s q) [
-    | inl o ↦ rw (o 65535 (vec_items z.ranks), o 255 (vec_items z.choices)) (fresh_none a s q (λ r v k _. outside s q o (v.inside s q k)))
+    | inl o ↦ subst (λ (e : Entry). Fresh a s q e.rank e.choice) (sym (o.1 (vec_items z.entries))) (fresh_none a s q (λ r v k _. o.0 (v.inside s q k)))
     | inr h ↦ before_all a _ p end i.done s q h.0 h.1
   ])
-    where
-      outside : (s q : ℕ) → ((n : ℕ) (l : List ℕ) → held a n l s q ≡ n) → (s < a.states) × (q < a.phases) → ⊥
-      outside s q o h = omega (arith, o 1 [], held_in a 1 [] s q h.0 h.1, o 2 [], held_in a 2 [] s q h.0 h.1)
 
   pub resetting_tracks : Tracks a z.ranked (ranks_in a z) 1
   resetting_tracks t q hq = i.sets t q (omega arith)
@@ -298,7 +297,9 @@ pruning_stable a old z p flag l end i f =
         before_all a _ p end i.pruning.onward t q y.0 y.1 (i.calm f t q ∙ e)
 
 -- ranks of 0 are below any rival's
-pub zero_least : (a : Arena) (b : Bounded a) (z : Ranking) → ((j : ℕ) → j < 8 * a.states → get_or (vec_items z.ranks) j 0 ≡ 0) → Least a (ranks_in a z)
-zero_least a b z zs r v s p k =
-    let i = v.inside s p k in
-    omega (arith, held_in a 65535 (vec_items z.ranks) s p i.0 i.1, zs (8 * s + p) (omega (arith, i.0, i.1, b.few_phases)))
+pub zero_least : (a : Arena) (b : Bounded a) (l : List Entry) (n : ℕ) (v : Entry) → v.rank ≡ 0 → 2048 ≤ n → l ≡ replicate n v → Least a (λ s p. (held a l s p).rank)
+zero_least a b l n v e long all r w s p k =
+    let i = w.inside s p k in
+    let there : held a l s p ≡ v = held_in a l s p i.0 i.1 ∙ ap (λ y. get_or y (8 * s + p) absent) all ∙ get_or-replicate n (8 * s + p) v absent (omega (arith, long, i.0, i.1, b.few_states, b.few_phases)) in
+    let zero : (held a l s p).rank ≡ 0 = ap (λ (y : Entry). y.rank) there ∙ e in
+    omega (arith, zero)

@@ -1,5 +1,5 @@
 -- From a settled ranking and its written record to the answer of solving.
-use Rattle.std.proofs.Common.{◌≡◌, ℕ, zero, suc, ◌+◌, ◌*◌, ◌/◌, ◌%◌, ◌<◌, ◌≤◌, true, false, ◌&&◌, ltb, ◌⊎◌, List, length, drop, None, Ok, sym, ap, ◌∙◌, subst, inl, inr, arith}
+use Rattle.std.proofs.Common.{◌≡◌, ℕ, zero, suc, ◌+◌, ◌*◌, ◌/◌, ◌%◌, ◌<◌, ◌≤◌, true, false, ◌&&◌, ltb, ◌⊎◌, List, length, drop, vec_items, None, Ok, sym, ap, ◌∙◌, subst, inl, inr, arith}
 use mathlib.Core.Path.{fun_ext}
 use Rattle.std.proofs.lemmas.List.{get_or-take, get_or-drop}
 use Rattle.std.proofs.lemmas.Bool.{cases_lt, lt-ltb, le-ltb, eq-eqb, cond-false}
@@ -18,7 +18,7 @@ use Rattle.checking.specs.Arenas.{Arena, arena, promised, Suits}
 use Rattle.checking.specs.Controllers.{Plan, plan_in, Kept}
 use Rattle.checking.specs.Checks.{Sized, Ranked, answer}
 use Rattle.checking.specs.Solutions.{Solved, Solution, record_size, solve_head, Found}
-use Rattle.checking.specs.Solving.{Stable, Bounded, held, ranks_in, choices_in, Wrote}
+use Rattle.checking.specs.Solving.{Stable, Bounded, ranks_in, choices_in, Wrote}
 use Rattle.checking.proofs.CheckLaws.{suits_to, ranked_to}
 use Rattle.checking.proofs.PlaceLaws.{held_or}
 use Rattle.checking.proofs.SolutionLaws.{solved, starts, none_controls}
@@ -34,9 +34,6 @@ module _ (a : Arena) (z : Ranking) (xs : List ℕ) (w : Wrote a z xs) where
   size_is : size_in xs ≡ a.states * a.phases
   size_is = ap (λ i. i * byte xs 2) w.states ∙ ap (λ i. a.states * i) w.phases
 
-  outside : (s p n : ℕ) → ((s < a.states) × (p < a.phases) → ⊥) → (l : List ℕ) → held a n l s p ≡ n
-  outside s p n never l = elim (held_or a s p) [ inl o ↦ o n l | inr h ↦ absurd (never h) ]
-
   not_inside : (s p : ℕ) → ((s < a.states) × (p < a.phases) → ⊥) → inside (parts_in xs) s p ≡ false
   not_inside s p never = elim (cases_lt s (pair xs 0)) [
     | inr h ↦ ap (λ b. b && ltb p (byte xs 2)) (le-ltb s (pair xs 0) h)
@@ -46,25 +43,19 @@ module _ (a : Arena) (z : Ranking) (xs : List ℕ) (w : Wrote a z xs) where
     ]
   ]
 
-  range : (s p : ℕ) → ((s < a.states) × (p < a.phases)) ⊎ ((s < a.states) × (p < a.phases) → ⊥)
-  range s p = elim (cases_lt s a.states) [
-    | inr h ↦ inr (λ i. omega (arith, i.0))
-    | inl hs ↦ elim (cases_lt p a.phases) [ inr h ↦ inr (λ i. omega (arith, i.1)) | inl hp ↦ inl (hs, hp) ]
-  ]
-
   choice_is : (s p : ℕ) → choice_at (parts_in xs) s p ≡ choices_in a z s p
-  choice_is s p = elim (range s p) [
-    | inl i ↦ choice_byte xs s p (omega (arith, i.0, w.states)) (omega (arith, i.1, w.phases))
+  choice_is s p = elim (held_or a s p) [
+    | inr i ↦ choice_byte xs s p (omega (arith, i.0, w.states)) (omega (arith, i.1, w.phases))
         ∙ ap (λ n. byte xs (4 + (s * n + p))) w.phases ∙ w.choice s p i.0 i.1
-    | inr n ↦ cond-false _ _ _ (not_inside s p n) ∙ sym (outside s p 255 n _)
+    | inl n ↦ cond-false _ _ _ (not_inside s p n.0) ∙ sym (ap (λ e. e.choice) (n.1 (vec_items z.entries)))
   ]
 
   rank_is : (s p : ℕ) → rank_at (parts_in xs) s p ≡ ranks_in a z s p
-  rank_is s p = elim (range s p) [
-    | inl i ↦ rank_pair xs s p (omega (arith, i.0, w.states)) (omega (arith, i.1, w.phases))
+  rank_is s p = elim (held_or a s p) [
+    | inr i ↦ rank_pair xs s p (omega (arith, i.0, w.states)) (omega (arith, i.1, w.phases))
         ∙ ap (λ n. pair xs (4 + n + 2 * (s * byte xs 2 + p))) size_is ∙ ap (λ n. pair xs (4 + a.states * a.phases + 2 * (s * n + p))) w.phases
         ∙ w.rank s p i.0 i.1
-    | inr n ↦ cond-false _ _ _ (not_inside s p n) ∙ sym (outside s p 65535 n _)
+    | inl n ↦ cond-false _ _ _ (not_inside s p n.0) ∙ sym (ap (λ e. e.rank) (n.1 (vec_items z.entries)))
   ]
 
   pub plan_is : plan_in xs ≡ record { choice = choices_in a z; rank = ranks_in a z }

@@ -5,6 +5,9 @@ ghost use Rattle.std.specs.Prelude.{◌≡◌, ◌<◌, ◌≤◌, ◌+◌, ◌*
 
 use crate::state_set::StateSet;
 
+/// How many signals there can be.
+pub(crate) const SIGNALS: u8 = 4;
+
 /// A game, asked once for all that a solver needs: for each state and both signals the set of next states.
 #[derive(Drop)]
 pub(crate) struct Snapshot {

@@ -8,7 +8,7 @@ use crate::snapshot::Snapshot;
 use games::deal::Deal;
 use games::machine::{Game, Machine};
 use reading::phase_table::PhaseTable;
-use reading::records::Record;
+use reading::records::{NO_RANK, Position, Record};
 use std::alloc::{AllocError, Global};
 
 /// Room for a solver, made once for games of any size; solving itself takes no memory.
@@ -21,7 +21,7 @@ pub struct Workspace {
 impl Workspace {
     /// Room for the largest game: 256 states with 16 pairs of signals, 2,048 positions.
     pub fn new(heap: Global) -> Result<Workspace, AllocError>
-        ensures { IfOk result (λ w. (vec_len w.snapshot.rows ≡ 4096) × (vec_len w.ranking.ranks ≡ 2048) × (vec_len w.ranking.choices ≡ 2048)) }
+        ensures { IfOk result (λ w. (vec_len w.snapshot.rows ≡ 4096) × (vec_len w.ranking.entries ≡ 2048)) }
     {
         Ok(Workspace {
             snapshot: Snapshot::new(heap)?,
@@ -50,7 +50,7 @@ pub fn solve<'a, G: Game>(
     if !seat.suits() {
         return Err(SolveFault::Sizes);
     }
-    if buffer.len() != 4 + 3 * (game.states() as usize * table.phases() as usize) {
+    if buffer.len() != 4 + 3 * (usize::from(game.states()) * usize::from(table.phases())) {
         return Err(SolveFault::Buffer);
     }
     workspace.snapshot.take(game);
@@ -61,7 +61,11 @@ pub fn solve<'a, G: Game>(
         side,
     };
     workspace.ranking.settle(&played);
-    if workspace.ranking.rank(played.game.start(), 0) == 65535 {
+    let start = Position {
+        state: workspace.snapshot.start(),
+        phase: 0,
+    };
+    if workspace.ranking.entry(start).rank == NO_RANK {
         return Err(SolveFault::NoController);
     }
     workspace.ranking.write(&played, buffer);

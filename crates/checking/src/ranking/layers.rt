@@ -1,31 +1,25 @@
 ghost use Rattle.std.specs.Prelude.{◌≡◌, ℕ, ◌+◌, ◌<◌, false, MatchOption};
 ghost use Rattle.checking.specs.Snapshots.{played};
-ghost use Rattle.checking.specs.Solving.{ranks_in, zeros, Tracks, Layers, Joining, Barred};
+ghost use Rattle.checking.specs.Solving.{ranks_in, zeros, Tracks, Layers, Inside, Joining, Barred};
 
-use crate::ranking::Ranking;
+use crate::ranking::{Entry, Ranking};
 use crate::seat::Seat;
 use crate::snapshot::Snapshot;
-
-/// Stands for no rank.
-const NO_RANK: u16 = 65535;
+use reading::records::{NO_RANK, Position};
 
 impl Ranking {
     /// The signal by which a position joins the next layer: it has no rank, is no goal and not forbidden, and is led into the ranked sets.
-    fn joining(&self, seat: &Seat<'_, Snapshot>, state: u16, phase: u8) -> Option<u8>
-        requires state { state < seat.now.game.now.states }
-        requires phase { phase < seat.now.table.now.phases }
-        ensures { MatchOption result (Barred (played seat.now) self.now state phase) (Joining (played seat.now) self.now state phase) }
+    fn joining(&self, seat: &Seat<'_, Snapshot>, at: Position) -> Option<u8>
+        requires { Inside (played seat.now) at }
+        ensures { MatchOption result (Barred (played seat.now) self.now at.state at.phase) (Joining (played seat.now) self.now at.state at.phase) }
     {
-        if self.rank(state, phase) != NO_RANK {
+        if self.entry(at).rank != NO_RANK
+            || seat.game.is_goal(at.state)
+            || seat.game.forbids(at.state)
+        {
             return None;
         }
-        if seat.game.is_goal(state) {
-            return None;
-        }
-        if seat.game.forbids(state) {
-            return None;
-        }
-        seat.first(&self.ranked, state, phase)
+        seat.first(&self.ranked, at)
     }
 
     /// Adds a layer: the positions led into the ranks below its depth. Whether there are any.
@@ -44,9 +38,16 @@ impl Ranking {
         let mut added = false;
         for phase in 0..seat.table.phases() {
             for state in 0..seat.game.states() {
-                if let Some(own) = self.joining(seat, state, phase) {
-                    self.give(state, phase, depth, own);
-                    next[phase as usize].insert(state);
+                let at = Position { state, phase };
+                if let Some(choice) = self.joining(seat, at) {
+                    self.give(
+                        at,
+                        Entry {
+                            rank: depth,
+                            choice,
+                        },
+                    );
+                    next[usize::from(phase)].insert(state);
                     added = true;
                 }
             }

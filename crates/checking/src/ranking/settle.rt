@@ -1,40 +1,27 @@
 ghost use Rattle.std.specs.Prelude.{◌≡◌, ◌<◌, ◌≤◌, true, false, Decides};
 ghost use Rattle.checking.specs.Snapshots.{played};
-ghost use Rattle.checking.specs.Solving.{ranks_in, choices_in, zeros, Tracks, Layers, Least, Stable, Target, Renewed};
+ghost use Rattle.checking.specs.Solving.{ranks_in, choices_in, zeros, Tracks, Layers, Inside, Least, Stable, Target, Renewed};
 
-use crate::ranking::Ranking;
+use crate::ranking::{ABSENT, Entry, Ranking};
 use crate::seat::Seat;
 use crate::snapshot::Snapshot;
 use crate::state_set::StateSet;
-
-/// What stands for no rank, and for no choice.
-const NO_RANK: u16 = 65535;
-
-const NO_CHOICE: u8 = 255;
+use reading::records::Position;
 
 impl Ranking {
     /// Ranks every position 0.
     fn begin(&mut self, seat: &Seat<'_, Snapshot>)
         ensures { Least (played seat.now) (ranks_in (played seat.now) self.new) }
     {
-        for i in 0..8 * seat.game.states() {
-            self.ranks[i as usize] = 0;
-        }
+        self.entries.fill(Entry { rank: 0, ..ABSENT });
     }
 
     /// Whether a position is a goal that is neither forbidden nor given up.
-    fn is_target(&self, seat: &Seat<'_, Snapshot>, state: u16, phase: u8) -> bool
-        requires state { state < seat.now.game.now.states }
-        requires phase { phase < seat.now.table.now.phases }
-        ensures { Decides result (Target (played seat.now) self.now state phase) }
+    fn is_target(&self, seat: &Seat<'_, Snapshot>, at: Position) -> bool
+        requires { Inside (played seat.now) at }
+        ensures { Decides result (Target (played seat.now) self.now at.state at.phase) }
     {
-        if self.rank(state, phase) != 0 {
-            return false;
-        }
-        if !seat.game.is_goal(state) {
-            return false;
-        }
-        !seat.game.forbids(state)
+        self.entry(at).rank == 0 && seat.game.is_goal(at.state) && !seat.game.forbids(at.state)
     }
 
     /// Keeps the targets alone.
@@ -47,29 +34,29 @@ impl Ranking {
         for phase in 0..seat.table.phases() {
             let mut set = StateSet::empty();
             for state in 0..seat.game.states() {
-                if self.is_target(seat, state, phase) {
+                let at = Position { state, phase };
+                if self.is_target(seat, at) {
                     set.insert(state);
                 } else {
-                    self.give(state, phase, NO_RANK, NO_CHOICE);
+                    self.give(at, ABSENT);
                 }
             }
-            self.ranked[phase as usize] = set;
+            self.ranked[usize::from(phase)] = set;
         }
     }
 
     /// Chooses for a target, or gives it up if it leads nowhere. Whether it was given up.
-    fn renew(&mut self, seat: &Seat<'_, Snapshot>, state: u16, phase: u8) -> bool
-        requires state { state < seat.now.game.now.states }
-        requires phase { phase < seat.now.table.now.phases }
-        ensures { Renewed (played seat.now) self.old self.new state phase result }
+    fn renew(&mut self, seat: &Seat<'_, Snapshot>, at: Position) -> bool
+        requires { Inside (played seat.now) at }
+        ensures { Renewed (played seat.now) self.old self.new at.state at.phase result }
     {
-        match seat.first(&self.ranked, state, phase) {
-            Some(own) => {
-                self.give(state, phase, 0, own);
+        match seat.first(&self.ranked, at) {
+            Some(choice) => {
+                self.give(at, Entry { rank: 0, choice });
                 false
             }
             None => {
-                self.give(state, phase, NO_RANK, NO_CHOICE);
+                self.give(at, ABSENT);
                 true
             }
         }
@@ -86,7 +73,8 @@ impl Ranking {
         let mut pruned = false;
         for phase in 0..seat.table.phases() {
             for state in 0..seat.game.states() {
-                if self.rank(state, phase) == 0 && self.renew(seat, state, phase) {
+                let at = Position { state, phase };
+                if self.entry(at).rank == 0 && self.renew(seat, at) {
                     pruned = true;
                 }
             }

@@ -2,19 +2,19 @@ ghost use Rattle.std.specs.Prelude.{◌≡◌, ℕ, ◌<◌, vec_len};
 ghost use Rattle.checking.specs.StateSets.{member};
 ghost use Rattle.checking.specs.Snapshots.{row_of, Taken};
 
-use crate::snapshot::{Snapshot, place};
+use crate::snapshot::{SIGNALS, Snapshot, place};
 use crate::state_set::StateSet;
 use games::machine::{Game, Machine};
 use std::alloc::{AllocError, Global};
-
-/// How many signals there can be.
-const SIGNALS: u8 = 4;
 
 /// The set of next states under two signals.
 fn next_states<G: Machine>(game: &G, state: u16, own: u8, partner: u8) -> StateSet
     ensures { (t : ℕ) → member result t ≡ (G.Machine.meaning game.now).move state own partner t }
 {
-    StateSet::of(game.states(), |next| game.may_move(state, own, partner, next))
+    StateSet::of(
+        game.states(),
+        |next| game.may_move(state, own, partner, next),
+    )
 }
 
 /// Fills the rows of a game's states.

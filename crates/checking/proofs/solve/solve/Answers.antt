@@ -5,12 +5,13 @@ use Rattle.reading.specs.declared.phase_table.PhaseTable.{PhaseTable}
 use Rattle.games.specs.declared.deal.Deal.{Deal}
 use Rattle.games.specs.Machines.{Model, Marks}
 use Rattle.checking.specs.declared.snapshot.Snapshot.{Snapshot}
+use Rattle.checking.specs.declared.ranking.Entry.{Entry}
 use Rattle.checking.specs.declared.ranking.Ranking.{Ranking}
 use Rattle.checking.specs.Arenas.{Arena, arena}
 use Rattle.checking.specs.Snapshots.{Taken, snap_arena}
-use Rattle.checking.specs.Solving.{Bounded, Stable, Wrote, ranks_in, choices_in}
+use Rattle.checking.specs.Solving.{absent, Bounded, Stable, Wrote, ranks_in, choices_in}
 use Rattle.checking.proofs.PlayLaws.{snap_bounded}
-use Rattle.checking.proofs.PlaceLaws.{rank_here}
+use Rattle.checking.proofs.PlaceLaws.{rank_read}
 use Rattle.checking.proofs.CheckLaws.{suits_from}
 use Rattle.checking.proofs.SolutionLaws.{same_arena}
 use Rattle.checking.proofs.SolveLaws.{head_none, nothing_controls, lawful_xs, found}
@@ -32,14 +33,11 @@ module _ (m : Model) (k : Marks) (z : Snapshot) (t : PhaseTable) (d : Deal) (sid
     over_wrote xs x = over (λ a. Wrote a r xs) x
 
     -- the rank that was read at the start
-    start_rank : (n s : ℕ) → s ≡ z.start → n ≡ get_or (vec_items r.ranks) (8 * s + 0) 0 → ranks_in (arena m k t d side) r m.start 0 ≡ n
-    start_rank n s es en =
-        let b = over_bounded in
-        rank_here (arena m k t d side) b m.start 0 b.starts b.some_phase r
-        ∙ ap (λ i. get_or (vec_items r.ranks) (8 * i + 0) 0) (sym (es ∙ w.start)) ∙ sym en
+    start_rank : (e : Entry) (s : ℕ) → s ≡ z.start → e ≡ get_or (vec_items r.entries) (8 * s + 0) absent → ranks_in (arena m k t d side) r m.start 0 ≡ e.rank
+    start_rank e s es en = rank_read (arena m k t d side) over_bounded m.start 0 over_bounded.starts over_bounded.some_phase r e (en ∙ ap (λ i. get_or (vec_items r.entries) (8 * i + 0) absent) (es ∙ w.start))
 
-pub returns-then-rank : goal.returns-then-rank
-returns-then-rank g c =
+pub returns-then-entry : goal.returns-then-entry
+returns-then-entry g c =
     let m = g.G.Machine.meaning c.args.game.now in
     let k = g.G.Game.marks c.args.game.now in
     let w = g.met.G.Machine.lawful c.args.game.now in
@@ -51,10 +49,10 @@ returns-then-rank g c =
     let s = suits_from m t d side (sym c.if-not-suits.ensures) in (
       refl,
       inr (
-        head_none m k t d side (length c.args.buffer.now) s (c.if-buffer-states.false ∙ ap (λ i. 4 + 3 * (i * c.phases.result)) c.states.ensures ∙ ap (λ i. 4 + 3 * (m.states * i)) c.phases.ensures),
+        head_none m k t d side (length c.args.buffer.now) s (c.if-buffer-from.false ∙ ap (λ i. 4 + 3 * (i * c.from-2.result)) (c.from.ensures ∙ c.states.ensures) ∙ ap (λ i. 4 + 3 * (m.states * i)) (c.from-2.ensures ∙ c.phases.ensures)),
         refl,
         nothing_controls m k t d side w s r (over_bounded m k z t d side c.take.ensures) (over_stable m k z t d side c.take.ensures r c.settle.ensures)
-            (omega (arith, start_rank m k z t d side c.take.ensures r c.rank.result c.start.result c.start.ensures c.rank.ensures, c.if-rank.true)),
+            (omega (arith, start_rank m k z t d side c.take.ensures r c.entry.result c.start.result c.start.ensures c.entry.ensures, c.if-entry.true)),
       ),
     )
 
@@ -69,7 +67,7 @@ unreachable-requires g c =
     let z = c.take.new.self in
     let r = c.settle.new.self in
     let s = suits_from m t d side (sym c.if-not-suits.ensures) in
-    let size = c.if-buffer-states.false ∙ ap (λ i. 4 + 3 * (i * c.phases.result)) c.states.ensures ∙ ap (λ i. 4 + 3 * (m.states * i)) c.phases.ensures in
+    let size = c.if-buffer-from.false ∙ ap (λ i. 4 + 3 * (i * c.from-2.result)) (c.from.ensures ∙ c.states.ensures) ∙ ap (λ i. 4 + 3 * (m.states * i)) (c.from-2.ensures ∙ c.phases.ensures) in
     false≢true (c.in-Err.ensures.lawful.1
     (lawful_xs m k t d side w s r (over_bounded m k z t d side c.take.ensures) (over_stable m k z t d side c.take.ensures r c.settle.ensures)
     c.args.buffer.now c.write.new.buffer size (over_wrote m k z t d side c.take.ensures r c.write.new.buffer c.write.ensures)))
@@ -85,9 +83,9 @@ returns g c =
     let z = c.take.new.self in
     let r = c.settle.new.self in
     let s = suits_from m t d side (sym c.if-not-suits.ensures) in
-    let size = c.if-buffer-states.false ∙ ap (λ i. 4 + 3 * (i * c.phases.result)) c.states.ensures ∙ ap (λ i. 4 + 3 * (m.states * i)) c.phases.ensures in
+    let size = c.if-buffer-from.false ∙ ap (λ i. 4 + 3 * (i * c.from-2.result)) (c.from.ensures ∙ c.states.ensures) ∙ ap (λ i. 4 + 3 * (m.states * i)) (c.from-2.ensures ∙ c.phases.ensures) in
     let kept : ranks_in (arena m k t d side) r m.start 0 < 65535 =
-    omega (arith, start_rank m k z t d side c.take.ensures r c.rank.result c.start.result c.start.ensures c.rank.ensures, c.if-rank.false, c.rank.type_inv) in
+    omega (arith, start_rank m k z t d side c.take.ensures r c.entry.result c.start.result c.start.ensures c.entry.ensures, c.if-entry.false, ((over_stable m k z t d side c.take.ensures r c.settle.ensures).shaped m.start 0).capped) in
     found m k t d side w s r (over_bounded m k z t d side c.take.ensures) (over_stable m k z t d side c.take.ensures r c.settle.ensures)
     c.args.buffer.now c.write.new.buffer size (over_wrote m k z t d side c.take.ensures r c.write.new.buffer c.write.ensures)
     c.bound.result (c.bound.ensures ∙ ap bound_of c.in-Ok.ensures.value) kept

@@ -23,11 +23,11 @@ loop-state-preserved c =
     elim c.match-joining.branch [
       | in-Some w ↦ (let j = w.in-Some.ensures in
           let e = w.give.ensures in
-          let v = written (played y) b _ _ hs hp c.loop-state.self w.give.new.self _ _ e.ranks e.choices in
-          rw (w.self-is, w.next-is, w.added-is) (
-            layering_add (played y) b _ _ _ _ _ i.0 _ _ _ j v e.sets c.requires.some c.requires.few w.insert.ensures,
+          let v = written (played y) b _ _ hs hp c.loop-state.self w.give.new.self _ e.entries in
+          rw (w.self-is, w.next-is, w.added-is, w.from.ensures) (
+            layering_add (played y) b _ _ _ _ _ i.0 _ _ _ j v e.sets c.requires.some c.requires.few (rw w.from.ensures at w.insert.ensures),
             λ h. absurd (true≢false h),
-            zeros_same (played y) b _ _ hs hp c.loop-state.self w.give.new.self c.args.depth e.ranks c.requires.some (omega (arith, j.fresh)) ∙ i.2,
+            zeros_same (played y) b _ _ hs hp c.loop-state.self w.give.new.self _ e.entries c.requires.some (omega (arith, j.fresh)) ∙ i.2,
           ))
       | in_default w ↦ rw (w.self-is, w.next-is, w.added-is) (layering_keep (played y) b _ _ _ _ _ i.0 w.in_default.ensures, i.1, i.2)
     ]

@@ -10,10 +10,10 @@ returns-in-Some c =
     let g = c.give.ensures in (
       g.sets,
       λ e. record {
-        own = c.in-Some.own;
+        own = c.in-Some.choice;
         first = c.in-Some.ensures;
-        written = written (played y) (bounded y) _ _ c.requires.state c.requires.phase _ _ _ _ g.ranks g.choices;
-        zeros = omega (arith, zeros_kept (played y) (bounded y) c.args.state c.args.phase c.requires.state c.requires.phase c.args.self.now c.give.new.self 0 g.ranks refl e);
+        written = written (played y) (bounded y) _ _ c.requires.state c.requires.phase _ _ _ g.entries;
+        zeros = omega (arith, zeros_kept (played y) (bounded y) _ _ c.requires.state c.requires.phase c.args.self.now c.give.new.self _ g.entries refl e);
       },
     )
 
@@ -24,7 +24,7 @@ returns-in-None c =
       g.sets,
       record {
         stuck = c.in-None.ensures;
-        written = written (played y) (bounded y) _ _ c.requires.state c.requires.phase _ _ _ _ g.ranks g.choices;
-        zeros = zeros_fall (played y) (bounded y) c.args.state c.args.phase c.requires.state c.requires.phase c.args.self.now c.give-in-None.new.self 65535 g.ranks (omega arith);
+        written = written (played y) (bounded y) _ _ c.requires.state c.requires.phase _ _ _ g.entries;
+        zeros = zeros_fall (played y) (bounded y) _ _ c.requires.state c.requires.phase c.args.self.now c.give-in-None.new.self _ g.entries (omega arith);
       },
     )

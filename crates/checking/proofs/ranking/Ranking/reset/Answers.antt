@@ -1,4 +1,4 @@
-use Rattle.std.proofs.Common.{◌<◌, ltb, sym, refl, ap, arith}
+use Rattle.std.proofs.Common.{◌<◌, ltb, set, sym, refl, ap, arith}
 use Rattle.std.proofs.lemmas.Bool.{false≢true}
 use Rattle.checking.specs.Snapshots.{played}
 use Rattle.checking.proofs.PlayLaws.{bounded}
@@ -28,11 +28,11 @@ loop-state-preserved c =
         i.2,
       ))
       | else-is_target w ↦ (let e = w.give.ensures in
-          let v = written (played y) b _ _ hs hp c.loop-state.self w.give.new.self _ _ e.ranks e.choices in
+          let v = written (played y) b _ _ hs hp c.loop-state.self w.give.new.self _ e.entries in
           rw (w.self-is, w.set-is) (
             resetting_clear _ _ _ _ hs hp i.0 _ v e.sets (λ t. false≢true (w.if-is_target.ensures.1 t)),
             kept_clear _ _ _ _ hs hp i.0 _ v e.sets (λ t. false≢true (w.if-is_target.ensures.1 t)) _ i.1,
-            omega (arith, zeros_few (played y) b _ _ hs hp c.loop-state.self w.give.new.self 65535 e.ranks (omega arith), i.2),
+            omega (arith, zeros_few (played y) b _ _ hs hp c.loop-state.self w.give.new.self _ e.entries (omega arith), i.2),
           ))
     ]
 
@@ -40,7 +40,7 @@ pub loop-phase-preserved : goal.loop-phase-preserved
 loop-phase-preserved c =
     let y = c.args.seat.now in
     let i = c.loop-state.invariant in (
-      resetting_turn (played y) (bounded y) c.loop-state.self _ c.loop-phase.phase c.loop-state.state _ (omega (arith, c.states-state-end.ensures, c.loop-state-test.false)) (omega (arith, c.phases-phase-end.ensures, c.loop-phase-test.true)) i.0 i.1 refl refl refl,
+      resetting_turn (played y) (bounded y) c.loop-state.self _ c.loop-phase.phase c.loop-state.state _ (omega (arith, c.states-state-end.ensures, c.loop-state-test.false)) (omega (arith, c.phases-phase-end.ensures, c.loop-phase-test.true)) i.0 i.1 refl (ap (λ j. set c.loop-state.self.ranked j c.loop-state.set) c.from.ensures),
       omega (arith, i.2, c.loop-phase.invariant.1),
     )
 

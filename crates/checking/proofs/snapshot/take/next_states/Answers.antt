@@ -1,6 +1,5 @@
-use Rattle.std.proofs.Common.{rules, ◌≡◌, ℕ, ◌<◌, sym, ◌∙◌, inl, inr, arith}
+use Rattle.std.proofs.Common.{rules, sym, ◌∙◌, inl, inr, arith}
 use Rattle.std.proofs.lemmas.Bool.{cases_lt, cases_Bool}
-use Rattle.checking.specs.StateSets.{member}
 use Rattle.checking.proofs.snapshot.take.next_states.Goals as goal
 
 pub returns : goal.returns
