@@ -1,15 +1,16 @@
 -- What a pass over the positions knows on its way: layer by layer, giving up goals, keeping the targets alone.
 use Rattle.std.proofs.Common.{◌≡◌, ℕ, ◌+◌, ◌*◌, ◌<◌, ◌≤◌, Bool, true, false, ◌||◌, eqb, ltb, ◌≢◌, List, length, get_or, set, vec_items, replicate, sym, refl, ap, ◌∙◌, subst, inl, inr, arith, length-set, get_or-set_other, get_or-set_same}
 use mathlib.Core.Path.{fun_ext}
+use Rattle.std.proofs.Math.Bool.{or-false, or-true}
 use Rattle.std.proofs.lemmas.List.{get_or-replicate}
-use Rattle.std.proofs.lemmas.Bool.{cases_lt, cases_eq, lt-ltb, le-ltb, eq-eqb, ne_eqb, false≢true, true≢false}
+use Rattle.std.proofs.lemmas.Bool.{cases_lt, cases_eq, ltb-true, lt-ltb, le-ltb, eq-eqb, ne_eqb, false≢true, true≢false}
 use Rattle.checking.specs.declared.state_set.StateSet.{StateSet}
 use Rattle.checking.specs.declared.ranking.Entry.{Entry}
 use Rattle.checking.specs.declared.ranking.Ranking.{Ranking}
 use Rattle.checking.specs.StateSets.{member, nothing}
 use Rattle.checking.specs.Arenas.{Arena}
 use Rattle.checking.specs.Controllers.{Plan, Kept, Rival}
-use Rattle.checking.specs.Solving.{absent, held, Lowest, Tracks, Least, Stable, Layers, Bounded, Before, Written, ranks_in, choices_in, zeros, Layering, Joining, Barred, Target, Fresh, Resetting, Pruning, Chosen, Dropped}
+use Rattle.checking.specs.Solving.{absent, held, Lowest, Tracks, Least, Stable, Layers, Bounded, Before, Written, ranks_in, choices_in, zeros, Layering, Joining, Barred, Target, Fresh, Resetting, Pruning, Chosen, Dropped, Renewed}
 use Rattle.checking.proofs.PlaceLaws.{held_in, held_or, before_none, before_next, before_turn, before_all}
 use Rattle.checking.proofs.SnapshotLaws.{Gathered, gather_skip}
 use Rattle.checking.proofs.AttractorLaws.{leads_into, first_lowest, rival_leads, layered_least, full_else, layer_done, layered_stable, written_all, full_join, join, fresh_none, fresh_zero, fresh_layers}
@@ -92,18 +93,16 @@ module _ (a : Arena) (z : Ranking) (next : List StateSet) (d p : ℕ) (end : a.p
   pub layering_done : Layers a z (d + 1) (d + 1)
   layering_done = layer_done a _ _ (d + 1) d i.layered (before_all a _ p end i.done)
 
-  -- nothing was added to layers that were there before
-  pub layering_quiet : (old : Ranking) → Layers a old d d → vec_items z.entries ≡ vec_items old.entries → Layers a z d (d + 1)
-  layering_quiet old l e = layer_done a _ _ d d
+  -- where the sets stay, nothing was added
+  pub layering_quiet : next ≡ z.ranked → Layers a z d (d + 1)
+  layering_quiet same = layer_done a _ _ d d
       (record {
         grown = i.layered.grown;
-        low = λ s q h. subst (λ (n : ℕ). n < 65535 → n < d) (sym (same s q)) (l.low s q) h;
+        low = λ s q h. (let y = (i.layered.grown.shaped s q).inside h in
+            ltb-true _ d (sym (i.present s q y.1) ∙ ap (λ l. member (get_or l q nothing) s) (sym same) ∙ i.coming s q y.1 ∙ lt-ltb _ (d + 1) (omega (arith, i.layered.low s q h))));
         full = i.layered.full;
       })
       (before_all a _ p end i.done)
-    where
-      same : (s q : ℕ) → ranks_in a z s q ≡ ranks_in a old s q
-      same s q = ap (λ k. (held a k s q).rank) e
 
 -- keeping the targets alone
 
@@ -236,7 +235,7 @@ module _ (a : Arena) (b : Bounded a) (old z : Ranking) (p s : ℕ) (flag : Bool)
     fewer = i.fewer;
   }
 
-  module _ (new : Ranking) (same : new.ranked ≡ z.ranked) (e : ranks_in a z s p ≡ 0) where
+  module _ (new : Ranking) (e : ranks_in a z s p ≡ 0) where
     -- what stood at the target before
     was : ranks_in a old s p ≡ 0
     was = elim (cases_eq (ranks_in a old s p) 0) [ inl h ↦ h | inr n ↦ absurd (n (sym (i.pruning.rest s p n).0 ∙ e)) ]
@@ -254,8 +253,8 @@ module _ (a : Arena) (b : Bounded a) (old z : Ranking) (p s : ℕ) (flag : Bool)
         (λ _. here) (λ t q f. f) t q (i.pruning.onward t q ht h))
         (rw (w.rank, w.choice) here)
 
-    pub pruning_choose : Chosen a z new s p → Pruned a old new p (s + 1) flag
-    pruning_choose c = record {
+    pruning_choose : new.ranked ≡ z.ranked → Chosen a z new s p → Pruned a old new p (s + 1) flag
+    pruning_choose same c = record {
       pruning = record {
         least = λ r v. written_all a z new s p 0 c.own c.written (λ t q n x. Kept r t q → n ≤ r.rank t q) (λ _. omega arith) (i.pruning.least r v);
         sets = same ∙ i.pruning.sets;
@@ -267,8 +266,8 @@ module _ (a : Arena) (b : Bounded a) (old z : Ranking) (p s : ℕ) (flag : Bool)
       fewer = λ f. omega (arith, c.zeros, i.fewer f);
     }
 
-    pub pruning_drop : Dropped a z new s p → Pruned a old new p (s + 1) true
-    pruning_drop c = record {
+    pruning_drop : new.ranked ≡ z.ranked → Dropped a z new s p → Pruned a old new p (s + 1) true
+    pruning_drop same c = record {
       pruning = record {
         least = λ r v. written_all a z new s p 65535 255 c.written (λ t q n x. Kept r t q → n ≤ r.rank t q) (λ k. absurd (stuck r v k)) (i.pruning.least r v);
         sets = same ∙ i.pruning.sets;
@@ -284,6 +283,10 @@ module _ (a : Arena) (b : Bounded a) (old z : Ranking) (p s : ℕ) (flag : Bool)
         stuck r v k =
             let lead = rival_leads a (ranks_in a old) (choices_in a old) (layered_least a _ _ l) r v s p k in
             c.stuck (r.choice s p) (rw i.pruning.sets (leads_into a old.ranked (ranks_in a old) 65535 b tr s p (r.choice s p) lead))
+
+    pub pruning_renew : (r : Bool) → Renewed a z new s p r → Pruned a old new p (s + 1) (flag || r)
+    pruning_renew false w = subst (Pruned a old new p (s + 1)) (sym (or-false flag)) (pruning_choose w.0 (w.1 e))
+    pruning_renew true w = subst (Pruned a old new p (s + 1)) (sym (or-true flag)) (pruning_drop w.0 w.1)
 
 -- nothing given up: the ranks are stable
 pub pruning_stable : (a : Arena) (old z : Ranking) (p : ℕ) (flag : Bool) → Layers a old 65535 65535 → a.phases ≤ p → Pruned a old z p 0 flag → flag ≡ false → Stable a (ranks_in a z) (choices_in a z)

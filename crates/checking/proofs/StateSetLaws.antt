@@ -1,8 +1,8 @@
 -- Laws of sets of states.
-use Rattle.std.proofs.Common.{◌≡◌, ℕ, zero, suc, ◌+◌, ◌-◌, ◌*◌, ◌/◌, ◌%◌, ◌^◌, ◌<◌, ◌≤◌, Bool, true, false, ◌&&◌, ◌||◌, eqb, sym, refl, ap, ◌∙◌, inl, inr, arith}
+use Rattle.std.proofs.Common.{◌≡◌, ℕ, zero, suc, ◌+◌, ◌-◌, ◌*◌, ◌/◌, ◌%◌, ◌^◌, ◌<◌, ◌≤◌, Bool, true, false, ◌&&◌, ◌||◌, eqb, sym, refl, ap, ◌∙◌, inl, inr, Decides, arith}
 use native.Mathlib.Nat.{two-pow-succ}
 use lib.Bits.{bit_and, bit_or}
-use Rattle.std.proofs.lemmas.Bool.{eq-eqb, ne_eqb, lt-ltb, le-ltb, cases_lt, cases_eq, cond-true, cond-false, both_ways}
+use Rattle.std.proofs.lemmas.Bool.{eqb-true, and_parts, and_from, eq-eqb, ne_eqb, lt-ltb, le-ltb, cases_lt, cases_eq, cond-true, cond-false, both_ways}
 use Rattle.std.proofs.lemmas.Nat.{pow-add, pow_below, shl-shr, or_shr, or_mod, mod_below, one_shl}
 use Rattle.reading.specs.Bytes.{bit}
 use Rattle.reading.specs.Marks.{implies}
@@ -138,3 +138,13 @@ module _ (x y : StateSet) where
         let q = le-ltb (i + 128) 128 (omega arith) in
         let back : i + 128 - 128 ≡ i = omega arith in
         sym (cond-false _ _ _ q ∙ ap (bit y.high) back) ∙ h (i + 128) (cond-false _ _ _ q ∙ ap (bit x.high) back ∙ e))
+
+-- sets are the same if their words are
+pub same_sets : (x y : StateSet) → Decides (eqb x.low y.low && eqb x.high y.high) (x ≡ y)
+same_sets x y = (
+  λ e. let w = and_parts _ _ e in join (eqb-true _ _ w.0) (eqb-true _ _ w.1),
+  λ e. and_from _ _ (eq-eqb _ _ (ap (λ z. z.low) e)) (eq-eqb _ _ (ap (λ z. z.high) e)),
+)
+  where
+    join : x.low ≡ y.low → x.high ≡ y.high → x ≡ y
+    join a b = λ i. record { low = a i; high = b i }

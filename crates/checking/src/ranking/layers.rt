@@ -35,25 +35,19 @@ impl Ranking {
     {
         // what joins this layer leads to no position of this layer
         let mut next = self.ranked;
-        let mut added = false;
         for phase in 0..seat.table.phases() {
             for state in 0..seat.game.states() {
                 let at = Position { state, phase };
                 if let Some(choice) = self.joining(seat, at) {
-                    self.give(
-                        at,
-                        Entry {
-                            rank: depth,
-                            choice,
-                        },
-                    );
+                    let rank = depth;
+                    self.give(at, Entry { rank, choice });
                     next[usize::from(phase)].insert(state);
-                    added = true;
                 }
             }
         }
+        let grown = next != self.ranked;
         self.ranked = next;
-        added
+        grown
     }
 
     /// Ranks every position from which the side comes to a target.

@@ -74,8 +74,8 @@ impl Ranking {
         for phase in 0..seat.table.phases() {
             for state in 0..seat.game.states() {
                 let at = Position { state, phase };
-                if self.entry(at).rank == 0 && self.renew(seat, at) {
-                    pruned = true;
+                if self.entry(at).rank == 0 {
+                    pruned |= self.renew(seat, at);
                 }
             }
         }

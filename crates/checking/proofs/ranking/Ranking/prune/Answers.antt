@@ -2,9 +2,9 @@ use Rattle.std.proofs.Common.{◌<◌, sym, ◌∙◌, arith}
 use Rattle.checking.specs.Snapshots.{played}
 use Rattle.checking.proofs.PlayLaws.{bounded}
 use Rattle.checking.proofs.PlaceLaws.{rank_read}
-use Rattle.checking.proofs.PassLaws.{pruning_start, pruning_skip, pruning_turn, pruning_choose, pruning_drop, pruning_stable}
+use Rattle.checking.proofs.PassLaws.{pruning_start, pruning_skip, pruning_turn, pruning_renew, pruning_stable}
 use Rattle.checking.proofs.ranking.Ranking.prune.Goals as goal
-use Rattle.checking.proofs.ranking.Ranking.prune.Goals.{then-entry-eq0+then-renew, else-entry-eq0, else-entry-eq0-via-then-entry-eq0+else-renew, else-entry-eq0-via-else-entry-eq0}
+use Rattle.checking.proofs.ranking.Ranking.prune.Goals.{then-entry-eq0, else-entry-eq0}
 
 pub loop-phase-init : goal.loop-phase-init
 loop-phase-init c = pruning_start _ _ c.requires.layers
@@ -21,13 +21,8 @@ loop-state-preserved c = λ old tr l i₀.
     let hp : c.loop-phase.phase < (played y).phases = omega (arith, c.phases-phase-end.ensures, c.loop-phase-test.true) in
     let at = rank_read (played y) b _ _ hs hp c.loop-state.self _ c.entry.ensures in
     elim c.if-entry-eq0.branch [
-      | then-entry-eq0+then-renew w ↦ (let r = w.if-renew.ensures in
-          rw (w.self-is, w.pruned-is) (pruning_drop (played y) b old c.loop-state.self _ _ _ tr l i _ r.0 (at ∙ w.if-entry-eq0.true) r.1))
-      | else-entry-eq0 w ↦ elim w.else-entry-eq0.branch [
-        | else-entry-eq0-via-then-entry-eq0+else-renew v ↦ (let r = v.if-renew.ensures in let e = at ∙ v.if-entry-eq0.true in
-            rw (w.self-is, w.pruned-is, v.self-is) (pruning_choose (played y) b old c.loop-state.self _ _ _ tr l i _ r.0 e (r.1 e)))
-        | else-entry-eq0-via-else-entry-eq0 v ↦ rw (w.self-is, w.pruned-is, v.self-is) (pruning_skip (played y) b old c.loop-state.self _ _ _ tr l i (λ z. v.if-entry-eq0.false (sym at ∙ z)))
-      ]
+      | then-entry-eq0 w ↦ rw (w.self-is, w.pruned-is) (pruning_renew (played y) b old c.loop-state.self _ _ _ tr l i w.renew-pruned.new.self (at ∙ w.if-entry-eq0.true) w.renew-pruned.result w.renew-pruned.ensures)
+      | else-entry-eq0 w ↦ rw (w.self-is, w.pruned-is) (pruning_skip (played y) b old c.loop-state.self _ _ _ tr l i (λ z. w.if-entry-eq0.false (sym at ∙ z)))
     ]
 
 pub loop-phase-preserved : goal.loop-phase-preserved
