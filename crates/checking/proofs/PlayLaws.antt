@@ -1,5 +1,5 @@
 -- What is known of every arena that is played, and how a signal leads there.
-use Rattle.std.proofs.Common.{◌≡◌, ℕ, zero, suc, ◌<◌, ◌≤◌, Bool, true, false, cond, ◌&&◌, ltb, List, get_or, sym, refl, subst, ◌∙◌, Option, Some, None, inl, inr, Decides, MatchBool, MatchOption, arith}
+use Rattle.std.proofs.Common.{◌≡◌, ℕ, zero, suc, ◌<◌, ◌≤◌, Bool, true, false, cond, ◌&&◌, ltb, List, length, get_or, sym, refl, subst, ◌∙◌, Option, Some, None, inl, inr, Decides, MatchBool, MatchOption, arith}
 use Rattle.reading.specs.PhaseTables.{table_of, next_phase}
 use Rattle.reading.specs.declared.phase_table.PhaseTable.{PhaseTable}
 use Rattle.games.specs.Sets.{width, pick}
@@ -13,7 +13,9 @@ use Rattle.checking.specs.Arenas.{follow}
 use Rattle.checking.specs.Snapshots.{snap_arena, played}
 use Rattle.checking.specs.Solving.{Bounded, Leading, Answered, First}
 use Rattle.std.specs.List.{range_with_len, AllWithin, HoldsAt}
-use Rattle.std.proofs.lemmas.List.FromFn.{get_or-range_with_len}
+use Rattle.std.proofs.lemmas.List.FromFn.{length-range_with_len, get_or-range_with_len}
+use Rattle.reading.specs.Firsts.{some_below}
+use Rattle.reading.proofs.FirstLaws.{some_test, none_test}
 use Rattle.std.proofs.lemmas.Bool.{false≢true, cases_lt}
 
 next_low : (t : PhaseTable) (p a b : ℕ) → next_phase (table_of t) p a b < t.phases
@@ -48,9 +50,16 @@ module _ (y : Seat Snapshot) (sets : List StateSet) (s p x b q : ℕ) (e : q ≡
   pub answered_to : Answered (played y) sets s p x b → (t : ℕ) → member row t ≡ true → member (get_or sets q nothing) t ≡ true
   answered_to w t m = rw e (w.into t (sym (moves t) ∙ m))
 
--- the signals in turn
-nth_signal : (k : ℕ) → k < 4 → (d : ℕ) → get_or (range_with_len 0 4) k d ≡ k
-nth_signal k l d = get_or-range_with_len 0 4 k d l ∙ (omega arith)
+-- the numbers of a range in turn
+nth : (n k : ℕ) → k < n → (d : ℕ) → get_or (range_with_len 0 n) k d ≡ k
+nth n k l d = get_or-range_with_len 0 n k d l ∙ (omega arith)
+
+-- whether any number passes, where a range was searched
+pub any_below : (n : ℕ) (f : ℕ → Bool) (r : Bool)
+    → MatchBool r ((k : ℕ) × (k < length (range_with_len 0 n)) × HoldsAt (λ t. f t ≡ true) (range_with_len 0 n) k) (AllWithin (λ t. f t ≡ false) (range_with_len 0 n) 0 (length (range_with_len 0 n)))
+    → r ≡ some_below n f
+any_below n f true (k, l, e) = let h : k < n = omega (arith, l, length-range_with_len 0 n) in sym (some_test n f k h (subst (λ t. f t ≡ true) (nth n k h 0) (e 0)))
+any_below n f false none = sym (none_test n f (λ k h. subst (λ t. f t ≡ false) (nth n k h 0) (none k 0 (omega arith) (omega (arith, h, length-range_with_len 0 n)))))
 
 module _ (y : Seat Snapshot) (sets : List StateSet) (s p : ℕ) where
   -- a partner's signal is answered if it is relied on
@@ -64,8 +73,8 @@ module _ (y : Seat Snapshot) (sets : List StateSet) (s p : ℕ) where
   leads_if_met x true e all = (λ _. record { promised = e; goes = λ v h. (met v h).goes; into = λ v t h. (met v h).into t }, λ _. refl)
     where
       met : (v : ℕ) → Met x v
-      met v h = let l = (bounded y).relies p v h in subst (Met x) (nth_signal v l 0) (all v 0 (omega arith) l) h
-  leads_if_met x false e (k, l, none) = (λ q. absurd (false≢true q), λ w. let u = subst (Unmet x) (nth_signal k l 0) (none 0) in absurd (u.1 (record { goes = w.goes k u.0; into = λ t. w.into k t u.0 })))
+      met v h = let l = (bounded y).relies p v h in subst (Met x) (nth 4 v l 0) (all v 0 (omega arith) l) h
+  leads_if_met x false e (k, l, none) = (λ q. absurd (false≢true q), λ w. let u = subst (Unmet x) (nth 4 k l 0) (none 0) in absurd (u.1 (record { goes = w.goes k u.0; into = λ t. w.into k t u.0 })))
 
   abbrev pub Astray : ℕ → Type 0
   Astray x = Leading (played y) sets s p x → ⊥
@@ -73,11 +82,11 @@ module _ (y : Seat Snapshot) (sets : List StateSet) (s p : ℕ) where
   pub first_found : (r : Option ℕ) → MatchOption r (AllWithin Astray (range_with_len 0 4) 0 4)
       (λ x. Leading (played y) sets s p x × (i : ℕ) × (i < 4) × HoldsAt (λ z. z ≡ x) (range_with_len 0 4) i × AllWithin Astray (range_with_len 0 4) 0 i)
       → MatchOption r ((x : ℕ) → Astray x) (First (played y) sets s p)
-  first_found None all = λ x w. let l = (bounded y).promises p x w.promised in subst Astray (nth_signal x l 0) (all x 0 (omega arith) l) w
+  first_found None all = λ x w. let l = (bounded y).promises p x w.promised in subst Astray (nth 4 x l 0) (all x 0 (omega arith) l) w
   first_found (Some x) (w, i, l, here, before) = record {
     leads = w;
     least = λ z v. elim (cases_lt z i) [
-      | inl h ↦ absurd (subst Astray (nth_signal z (omega arith) 0) (before z 0 (omega arith) h) v)
-      | inr h ↦ omega (arith, h, nth_signal i l 0, here 0)
+      | inl h ↦ absurd (subst Astray (nth 4 z (omega arith) 0) (before z 0 (omega arith) h) v)
+      | inr h ↦ omega (arith, h, nth 4 i l 0, here 0)
     ];
   }

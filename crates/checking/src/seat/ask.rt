@@ -55,11 +55,6 @@ impl<G: Machine> Seat<'_, G> {
     pub(crate) fn has_next(&self, state: u16, own: u8, partner: u8) -> bool
         ensures { result ≡ some_below (G.Machine.meaning self.now.game.now).states ((G.Machine.meaning self.now.game.now).move state own partner) }
     {
-        for next in 0..self.game.states() {
-            if self.game.may_move(state, own, partner, next) {
-                return true;
-            }
-        }
-        false
+        (0..self.game.states()).any(|next| self.game.may_move(state, own, partner, next))
     }
 }
