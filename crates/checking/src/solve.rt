@@ -69,8 +69,6 @@ pub fn solve<'a, G: Game>(
         return Err(SolveFault::NoController);
     }
     workspace.ranking.write(&played, buffer);
-    match Record::read(buffer) {
-        Ok(solved) => Ok(solved.bound()),
-        Err(_) => unreachable(),
-    }
+    // what was written can be read
+    Ok(Record::read(buffer).unwrap().bound())
 }
