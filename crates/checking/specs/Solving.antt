@@ -134,6 +134,11 @@ pub record Written (a : Arena) (old new : Ranking) (s p n x : ℕ) : Type 0 wher
 abbrev pub Layers : Arena → Ranking → ℕ → ℕ → Type 0
 Layers a z top done = Layered a (ranks_in a z) (choices_in a z) top done
 
+-- the layers below d are there and complete, and the sets have what they rank
+pub record Attracted (a : Arena) (z : Ranking) (d : ℕ) : Type 0 where
+  pub layers : Layers a z d d
+  pub tracks : Tracks a z.ranked (ranks_in a z) d
+
 -- the pass of layer d, before state s of phase p: the sets in use have the ranks below d, the next sets those up to d
 pub record Layering (a : Arena) (z : Ranking) (next : List StateSet) (d p s : ℕ) : Type 0 where
   pub layered : Layers a z (d + 1) d

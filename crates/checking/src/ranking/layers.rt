@@ -1,6 +1,6 @@
 ghost use Rattle.std.specs.Prelude.{◌≡◌, ℕ, ◌+◌, ◌<◌, false, MatchOption};
 ghost use Rattle.checking.specs.Snapshots.{played};
-ghost use Rattle.checking.specs.Solving.{ranks_in, zeros, Tracks, Layers, Inside, Joining, Barred};
+ghost use Rattle.checking.specs.Solving.{zeros, Attracted, Layers, Inside, Joining, Barred};
 
 use crate::ranking::{Entry, Ranking};
 use crate::seat::Seat;
@@ -26,10 +26,8 @@ impl Ranking {
     fn add_layer(&mut self, seat: &Seat<'_, Snapshot>, depth: u16) -> bool
         requires some { 0 < depth }
         requires few { depth < 65535 }
-        requires layers { Layers (played seat.now) self.old depth depth }
-        requires tracks { Tracks (played seat.now) self.old.ranked (ranks_in (played seat.now) self.old) depth }
-        ensures layers { Layers (played seat.now) self.new (depth + 1) (depth + 1) }
-        ensures tracks { Tracks (played seat.now) self.new.ranked (ranks_in (played seat.now) self.new) (depth + 1) }
+        requires before { Attracted (played seat.now) self.old depth }
+        ensures after { Attracted (played seat.now) self.new (depth + 1) }
         ensures stops { result ≡ false → Layers (played seat.now) self.new depth (depth + 1) }
         ensures zeros { zeros self.new ≡ zeros self.old }
     {
@@ -52,10 +50,8 @@ impl Ranking {
 
     /// Ranks every position from which the side comes to a target.
     pub(crate) fn attract(&mut self, seat: &Seat<'_, Snapshot>)
-        requires layers { Layers (played seat.now) self.old 1 1 }
-        requires tracks { Tracks (played seat.now) self.old.ranked (ranks_in (played seat.now) self.old) 1 }
-        ensures layers { Layers (played seat.now) self.new 65535 65535 }
-        ensures tracks { Tracks (played seat.now) self.new.ranked (ranks_in (played seat.now) self.new) 65535 }
+        requires { Attracted (played seat.now) self.old 1 }
+        ensures after { Attracted (played seat.now) self.new 65535 }
         ensures zeros { zeros self.new ≡ zeros self.old }
     {
         for depth in 1..NO_RANK {

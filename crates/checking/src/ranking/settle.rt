@@ -1,6 +1,6 @@
 ghost use Rattle.std.specs.Prelude.{◌≡◌, ◌<◌, ◌≤◌, true, false, Decides};
 ghost use Rattle.checking.specs.Snapshots.{played};
-ghost use Rattle.checking.specs.Solving.{ranks_in, choices_in, zeros, Tracks, Layers, Inside, Least, Stable, Target, Renewed};
+ghost use Rattle.checking.specs.Solving.{ranks_in, choices_in, zeros, Attracted, Inside, Least, Stable, Target, Renewed};
 
 use crate::ranking::{ABSENT, Entry, Ranking};
 use crate::seat::Seat;
@@ -27,8 +27,7 @@ impl Ranking {
     /// Keeps the targets alone.
     fn reset(&mut self, seat: &Seat<'_, Snapshot>)
         requires { Least (played seat.now) (ranks_in (played seat.now) self.old) }
-        ensures layers { Layers (played seat.now) self.new 1 1 }
-        ensures tracks { Tracks (played seat.now) self.new.ranked (ranks_in (played seat.now) self.new) 1 }
+        ensures after { Attracted (played seat.now) self.new 1 }
         ensures zeros { zeros self.new ≤ zeros self.old }
     {
         for phase in 0..seat.table.phases() {
@@ -64,8 +63,7 @@ impl Ranking {
 
     /// Gives up the targets that lead nowhere, and chooses for the others. Whether any was given up.
     fn prune(&mut self, seat: &Seat<'_, Snapshot>) -> bool
-        requires layers { Layers (played seat.now) self.old 65535 65535 }
-        requires tracks { Tracks (played seat.now) self.old.ranked (ranks_in (played seat.now) self.old) 65535 }
+        requires { Attracted (played seat.now) self.old 65535 }
         ensures least { Least (played seat.now) (ranks_in (played seat.now) self.new) }
         ensures fewer { result ≡ true → zeros self.new < zeros self.old }
         ensures stable { result ≡ false → Stable (played seat.now) (ranks_in (played seat.now) self.new) (choices_in (played seat.now) self.new) }

@@ -10,7 +10,7 @@ use Rattle.checking.proofs.ranking.Ranking.add_layer.Goals as goal
 use Rattle.checking.proofs.ranking.Ranking.add_layer.Goals.{in-Some, in_default}
 
 pub loop-phase-init : goal.loop-phase-init
-loop-phase-init c = (layering_start _ _ _ c.requires.few c.requires.layers c.requires.tracks, refl)
+loop-phase-init c = (layering_start _ _ _ c.requires.few c.requires.before.layers c.requires.before.tracks, refl)
 
 pub loop-state-init : goal.loop-state-init
 loop-state-init c = (c.loop-phase.invariant.0, refl)
@@ -44,8 +44,7 @@ returns c =
     let i = c.loop-phase.invariant in
     let end : (played c.args.seat.now).phases ≤ c.loop-phase.phase = omega (arith, c.phases-phase-end.ensures, c.loop-phase-test.false) in
     record {
-      layers = layering_done (played c.args.seat.now) c.loop-phase.self _ _ c.loop-phase.phase end i.0;
-      tracks = i.0.coming;
+      after = record { layers = layering_done (played c.args.seat.now) c.loop-phase.self _ _ c.loop-phase.phase end i.0; tracks = i.0.coming };
       stops = λ e. layering_quiet (played c.args.seat.now) c.loop-phase.self _ _ c.loop-phase.phase end i.0 ((pointwise_decides same_sets c.loop-phase.next c.loop-phase.self.ranked).0 (not-false _ (sym c.ne-grown.ensures ∙ e)));
       zeros = i.1;
     }

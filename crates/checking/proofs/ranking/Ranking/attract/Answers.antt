@@ -8,12 +8,14 @@ pub returns-then-not-add_layer : goal.returns-then-not-add_layer
 returns-then-not-add_layer c =
     let s = c.add_layer.ensures.stops c.if-not-add_layer.true in
     record {
-      layers = layer_stops (played c.args.seat.now) _ _ c.loop-depth.depth (omega arith) (omega arith) s;
-      tracks = tracks_top (played c.args.seat.now) _ _ _ 65535 (omega arith) (λ t q h. omega (arith, s.low t q h)) c.add_layer.ensures.tracks;
-      zeros = c.add_layer.ensures.zeros ∙ c.loop-depth.invariant.2;
+      after = record {
+        layers = layer_stops (played c.args.seat.now) _ _ c.loop-depth.depth (omega arith) (omega arith) s;
+        tracks = tracks_top (played c.args.seat.now) _ _ _ 65535 (omega arith) (λ t q h. omega (arith, s.low t q h)) c.add_layer.ensures.after.tracks;
+      };
+      zeros = c.add_layer.ensures.zeros ∙ c.loop-depth.invariant.1;
     }
 
 pub returns : goal.returns
 returns c =
     let e : c.loop-depth.depth ≡ 65535 = omega arith in
-    record { layers = rw e at c.loop-depth.invariant.0; tracks = rw e at c.loop-depth.invariant.1; zeros = c.loop-depth.invariant.2 }
+    record { after = rw e at c.loop-depth.invariant.0; zeros = c.loop-depth.invariant.1 }

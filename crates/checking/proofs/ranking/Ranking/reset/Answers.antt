@@ -48,7 +48,6 @@ pub returns : goal.returns
 returns c =
     let i = c.loop-phase.invariant in
     record {
-      layers = resetting_layers _ _ c.loop-phase.phase (omega (arith, c.phases-phase-end.ensures, c.loop-phase-test.false)) i.0;
-      tracks = resetting_tracks _ _ c.loop-phase.phase (omega (arith, c.phases-phase-end.ensures, c.loop-phase-test.false)) i.0;
+      after = record { layers = resetting_layers _ _ c.loop-phase.phase (omega (arith, c.phases-phase-end.ensures, c.loop-phase-test.false)) i.0; tracks = resetting_tracks _ _ c.loop-phase.phase (omega (arith, c.phases-phase-end.ensures, c.loop-phase-test.false)) i.0 };
       zeros = i.1;
     }
