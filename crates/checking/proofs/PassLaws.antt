@@ -10,7 +10,7 @@ use Rattle.checking.specs.declared.ranking.Ranking.{Ranking}
 use Rattle.checking.specs.StateSets.{member, nothing}
 use Rattle.checking.specs.Arenas.{Arena}
 use Rattle.checking.specs.Controllers.{Plan, Kept, Rival}
-use Rattle.checking.specs.Solving.{absent, held, Lowest, Tracks, Least, Stable, Layers, Bounded, Before, Written, ranks_in, choices_in, zeros, Layering, Joining, Barred, Target, Fresh, Resetting, Pruning, Chosen, Dropped, Renewed}
+use Rattle.checking.specs.Solving.{absent, held, Lowest, Tracks, Least, Stable, Attracted, Layers, Bounded, Before, Written, ranks_in, choices_in, zeros, Layering, Joining, Barred, Target, Fresh, Resetting, Pruning, Chosen, Dropped, Renewed}
 use Rattle.checking.proofs.PlaceLaws.{held_in, held_or, before_none, before_next, before_turn, before_all}
 use Rattle.checking.proofs.SnapshotLaws.{Gathered, gather_skip}
 use Rattle.checking.proofs.AttractorLaws.{leads_into, first_lowest, rival_leads, layered_least, full_else, layer_done, layered_stable, written_all, full_join, join, fresh_none, fresh_zero, fresh_layers}
@@ -208,7 +208,7 @@ pruning_start a z l = record {
   fewer = λ e. absurd (false≢true e);
 }
 
-module _ (a : Arena) (b : Bounded a) (old z : Ranking) (p s : ℕ) (flag : Bool) (tr : Tracks a old.ranked (ranks_in a old) 65535) (l : Layers a old 65535 65535) (i : Pruned a old z p s flag) where
+module _ (a : Arena) (b : Bounded a) (old z : Ranking) (p s : ℕ) (flag : Bool) (before : Attracted a old 65535) (i : Pruned a old z p s flag) where
   pub pruning_skip : (ranks_in a z s p ≡ 0 → ⊥) → Pruned a old z p (s + 1) flag
   pruning_skip n = record {
     pruning = record {
@@ -259,7 +259,7 @@ module _ (a : Arena) (b : Bounded a) (old z : Ranking) (p s : ℕ) (flag : Bool)
         least = λ r v. written_all a z new s p 0 c.own c.written (λ t q n x. Kept r t q → n ≤ r.rank t q) (λ _. omega arith) (i.pruning.least r v);
         sets = same ∙ i.pruning.sets;
         rest = rest_after 0 c.own c.written;
-        onward = onward_after 0 c.own c.written (λ _. first_lowest a old.ranked (ranks_in a old) 65535 b tr s p c.own (rw i.pruning.sets at c.first));
+        onward = onward_after 0 c.own c.written (λ _. first_lowest a old.ranked (ranks_in a old) 65535 b before.tracks s p c.own (rw i.pruning.sets at c.first));
       };
       calm = λ f. written_all a z new s p 0 c.own c.written (λ t q n x. n ≡ ranks_in a old t q) (sym was) (i.calm f);
       few = omega (arith, c.zeros, i.few);
@@ -281,8 +281,8 @@ module _ (a : Arena) (b : Bounded a) (old z : Ranking) (p s : ℕ) (flag : Bool)
       where
         stuck : (r : Plan) → Rival a r → Kept r s p → ⊥
         stuck r v k =
-            let lead = rival_leads a (ranks_in a old) (choices_in a old) (layered_least a _ _ l) r v s p k in
-            c.stuck (r.choice s p) (rw i.pruning.sets (leads_into a old.ranked (ranks_in a old) 65535 b tr s p (r.choice s p) lead))
+            let lead = rival_leads a (ranks_in a old) (choices_in a old) (layered_least a _ _ before.layers) r v s p k in
+            c.stuck (r.choice s p) (rw i.pruning.sets (leads_into a old.ranked (ranks_in a old) 65535 b before.tracks s p (r.choice s p) lead))
 
     pub pruning_renew : (r : Bool) → Renewed a z new s p r → Pruned a old new p (s + 1) (flag || r)
     pruning_renew false w = subst (Pruned a old new p (s + 1)) (sym (or-false flag)) (pruning_choose w.0 (w.1 e))

@@ -13,7 +13,7 @@ pub loop-phase-init : goal.loop-phase-init
 loop-phase-init c = (layering_start _ _ _ c.requires.few c.requires.before.layers c.requires.before.tracks, refl)
 
 pub loop-state-init : goal.loop-state-init
-loop-state-init c = (c.loop-phase.invariant.0, refl)
+loop-state-init c = c.loop-phase.invariant
 
 pub loop-state-preserved : goal.loop-state-preserved
 loop-state-preserved c =
@@ -36,7 +36,7 @@ loop-state-preserved c =
 pub loop-phase-preserved : goal.loop-phase-preserved
 loop-phase-preserved c = let i = c.loop-state.invariant in (
   layering_turn _ (bounded c.args.seat.now) _ _ _ _ c.loop-state.state i.0 (omega (arith, c.states-state-end.ensures, c.loop-state-test.false)),
-  i.1 ∙ c.loop-phase.invariant.1,
+  i.1,
 )
 
 pub returns : goal.returns

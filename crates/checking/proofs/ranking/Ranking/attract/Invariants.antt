@@ -4,4 +4,4 @@ use Rattle.checking.specs.Solving.{zeros, Attracted}
 use Rattle.checking.proofs.ranking.Ranking.attract.Given as goal
 
 abbrev pub invariant-loop-depth : goal.invariant-loop-depth
-invariant-loop-depth l = Attracted (played l.seat) l.self l.depth × (zeros l.self ≡ zeros l.initial.self)
+invariant-loop-depth l = Attracted (played l.seat) l.self l.depth × (zeros l.self ≡ zeros l.fn.self)

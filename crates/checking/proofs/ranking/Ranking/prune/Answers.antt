@@ -9,27 +9,25 @@ use Rattle.checking.proofs.ranking.Ranking.prune.Goals.{then-entry-eq0, else-ent
 pub loop-phase-init : goal.loop-phase-init
 loop-phase-init c = pruning_start _ _ c.requires.layers
 
-pub loop-state-init : goal.loop-state-init
-loop-state-init c = λ old tr l i. i
-
 pub loop-state-preserved : goal.loop-state-preserved
-loop-state-preserved c = λ old tr l i₀.
+loop-state-preserved c =
     let y = c.args.seat.now in
     let b = bounded y in
-    let i = c.loop-state.invariant old tr l i₀ in
+    let i = c.loop-state.invariant in
+    let old = c.args.self.now in
     let hs : c.loop-state.state < (played y).states = omega (arith, c.states-state-end.ensures, c.loop-state-test.true) in
     let hp : c.loop-phase.phase < (played y).phases = omega (arith, c.phases-phase-end.ensures, c.loop-phase-test.true) in
     let at = rank_read (played y) b _ _ hs hp c.loop-state.self _ c.entry.ensures in
     elim c.if-entry-eq0.branch [
-      | then-entry-eq0 w ↦ rw (w.self-is, w.pruned-is) (pruning_renew (played y) b old c.loop-state.self _ _ _ tr l i w.renew-pruned.new.self (at ∙ w.if-entry-eq0.true) w.renew-pruned.result w.renew-pruned.ensures)
-      | else-entry-eq0 w ↦ rw (w.self-is, w.pruned-is) (pruning_skip (played y) b old c.loop-state.self _ _ _ tr l i (λ z. w.if-entry-eq0.false (sym at ∙ z)))
+      | then-entry-eq0 w ↦ rw (w.self-is, w.pruned-is) (pruning_renew (played y) b old c.loop-state.self _ _ _ c.requires i w.renew-pruned.new.self (at ∙ w.if-entry-eq0.true) w.renew-pruned.result w.renew-pruned.ensures)
+      | else-entry-eq0 w ↦ rw (w.self-is, w.pruned-is) (pruning_skip (played y) b old c.loop-state.self _ _ _ c.requires i (λ z. w.if-entry-eq0.false (sym at ∙ z)))
     ]
 
 pub loop-phase-preserved : goal.loop-phase-preserved
 loop-phase-preserved c =
     let y = c.args.seat.now in
-    pruning_turn (played y) (bounded y) c.args.self.now c.loop-state.self c.loop-phase.phase c.loop-state.state _ c.requires.tracks c.requires.layers
-    (c.loop-state.invariant c.args.self.now c.requires.tracks c.requires.layers c.loop-phase.invariant) (omega (arith, c.states-state-end.ensures, c.loop-state-test.false))
+    pruning_turn (played y) (bounded y) c.args.self.now c.loop-state.self c.loop-phase.phase c.loop-state.state _ c.requires
+    c.loop-state.invariant (omega (arith, c.states-state-end.ensures, c.loop-state-test.false))
 
 pub returns : goal.returns
 returns c =

@@ -12,7 +12,7 @@ pub loop-phase-init : goal.loop-phase-init
 loop-phase-init c = (resetting_start _ _ c.requires, omega arith)
 
 pub loop-state-init : goal.loop-state-init
-loop-state-init c = (c.loop-phase.invariant.0, rw c.empty-set.ensures (gather_none _), omega arith)
+loop-state-init c = (c.loop-phase.invariant.0, rw c.empty-set.ensures (gather_none _), c.loop-phase.invariant.1)
 
 pub loop-state-preserved : goal.loop-state-preserved
 loop-state-preserved c =
@@ -41,7 +41,7 @@ loop-phase-preserved c =
     let y = c.args.seat.now in
     let i = c.loop-state.invariant in (
       resetting_turn (played y) (bounded y) c.loop-state.self _ c.loop-phase.phase c.loop-state.state _ (omega (arith, c.states-state-end.ensures, c.loop-state-test.false)) (omega (arith, c.phases-phase-end.ensures, c.loop-phase-test.true)) i.0 i.1 refl (ap (λ j. set c.loop-state.self.ranked j c.loop-state.set) c.from.ensures),
-      omega (arith, i.2, c.loop-phase.invariant.1),
+      i.2,
     )
 
 pub returns : goal.returns
