@@ -1,19 +1,13 @@
-use Rattle.std.proofs.Common.{◌<◌, ◌≤◌, refl, ◌∙◌, sym, arith}
+use Rattle.std.proofs.Common.{◌<◌, ◌∙◌, sym, arith}
 use Rattle.std.specs.Cmp.Lexicographic.{pointwise_decides}
 use Rattle.std.proofs.lemmas.Bool.{not-false}
 use Rattle.checking.proofs.StateSetLaws.{same_sets}
 use Rattle.checking.specs.Snapshots.{played}
 use Rattle.checking.proofs.PlayLaws.{bounded}
 use Rattle.checking.proofs.PlaceLaws.{written, zeros_same}
-use Rattle.checking.proofs.PassLaws.{layering_start, layering_keep, layering_turn, layering_add, layering_done, layering_quiet}
+use Rattle.checking.proofs.PassLaws.{layering_keep, layering_add, layering_done, layering_quiet}
 use Rattle.checking.proofs.ranking.Ranking.add_layer.Goals as goal
 use Rattle.checking.proofs.ranking.Ranking.add_layer.Goals.{in-Some, in_default}
-
-pub loop-phase-init : goal.loop-phase-init
-loop-phase-init c = (layering_start _ _ _ c.requires.few c.requires.before.layers c.requires.before.tracks, refl)
-
-pub loop-state-init : goal.loop-state-init
-loop-state-init c = c.loop-phase.invariant
 
 pub loop-state-preserved : goal.loop-state-preserved
 loop-state-preserved c =
@@ -33,18 +27,12 @@ loop-state-preserved c =
       | in_default w ↦ rw (w.self-is, w.next-is) (layering_keep (played y) b _ _ _ _ _ i.0 w.in_default.ensures, i.1)
     ]
 
-pub loop-phase-preserved : goal.loop-phase-preserved
-loop-phase-preserved c = let i = c.loop-state.invariant in (
-  layering_turn _ (bounded c.args.seat.now) _ _ _ _ c.loop-state.state i.0 (omega (arith, c.states-state-end.ensures, c.loop-state-test.false)),
-  i.1,
-)
+pub returns-clause-after : goal.returns-clause-after
+returns-clause-after c = record {
+  layers = layering_done (played c.args.seat.now) c.loop-phase.self _ _ c.loop-phase.phase (omega (arith, c.phases-phase-end.ensures, c.loop-phase-test.false)) c.loop-phase.invariant.0;
+  tracks = c.loop-phase.invariant.0.coming;
+}
 
-pub returns : goal.returns
-returns c =
-    let i = c.loop-phase.invariant in
-    let end : (played c.args.seat.now).phases ≤ c.loop-phase.phase = omega (arith, c.phases-phase-end.ensures, c.loop-phase-test.false) in
-    record {
-      after = record { layers = layering_done (played c.args.seat.now) c.loop-phase.self _ _ c.loop-phase.phase end i.0; tracks = i.0.coming };
-      stops = λ e. layering_quiet (played c.args.seat.now) c.loop-phase.self _ _ c.loop-phase.phase end i.0 ((pointwise_decides same_sets c.loop-phase.next c.loop-phase.self.ranked).0 (not-false _ (sym c.ne-grown.ensures ∙ e)));
-      zeros = i.1;
-    }
+pub returns-clause-stops : goal.returns-clause-stops
+returns-clause-stops c = λ e. layering_quiet (played c.args.seat.now) c.loop-phase.self _ _ c.loop-phase.phase (omega (arith, c.phases-phase-end.ensures, c.loop-phase-test.false)) c.loop-phase.invariant.0
+    ((pointwise_decides same_sets c.loop-phase.next c.loop-phase.self.ranked).0 (not-false _ (sym c.ne-grown.ensures ∙ e)))

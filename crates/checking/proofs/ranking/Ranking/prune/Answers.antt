@@ -24,16 +24,7 @@ loop-state-preserved c =
     ]
 
 pub loop-phase-preserved : goal.loop-phase-preserved
-loop-phase-preserved c =
-    let y = c.args.seat.now in
-    pruning_turn (played y) (bounded y) c.args.self.now c.loop-state.self c.loop-phase.phase c.loop-state.state _ c.requires
-    c.loop-state.invariant (omega (arith, c.states-state-end.ensures, c.loop-state-test.false))
+loop-phase-preserved c = pruning_turn _ (bounded c.args.seat.now) _ _ _ c.loop-state.state _ c.requires c.loop-state.invariant (omega (arith, c.states-state-end.ensures, c.loop-state-test.false))
 
-pub returns : goal.returns
-returns c =
-    let i = c.loop-phase.invariant in
-    record {
-      least = i.pruning.least;
-      fewer = i.fewer;
-      stable = pruning_stable _ _ _ c.loop-phase.phase _ c.requires.layers (omega (arith, c.phases-phase-end.ensures, c.loop-phase-test.false)) i;
-    }
+pub returns-clause-stable : goal.returns-clause-stable
+returns-clause-stable c = pruning_stable _ _ _ c.loop-phase.phase _ c.requires.layers (omega (arith, c.phases-phase-end.ensures, c.loop-phase-test.false)) c.loop-phase.invariant

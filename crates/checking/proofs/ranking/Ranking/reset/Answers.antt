@@ -1,18 +1,12 @@
-use Rattle.std.proofs.Common.{◌<◌, ltb, set, sym, refl, ap, arith}
+use Rattle.std.proofs.Common.{◌<◌, ◌≤◌, ltb, set, sym, refl, ap, arith}
 use Rattle.std.proofs.lemmas.Bool.{false≢true}
 use Rattle.checking.specs.Snapshots.{played}
 use Rattle.checking.proofs.PlayLaws.{bounded}
 use Rattle.checking.proofs.PlaceLaws.{written, zeros_few}
-use Rattle.checking.proofs.SnapshotLaws.{gather_none, gather_put}
-use Rattle.checking.proofs.PassLaws.{resetting_start, resetting_keep, resetting_clear, kept_clear, resetting_turn, resetting_layers, resetting_tracks}
+use Rattle.checking.proofs.SnapshotLaws.{gather_put}
+use Rattle.checking.proofs.PassLaws.{resetting_keep, resetting_clear, kept_clear, resetting_turn, resetting_layers, resetting_tracks}
 use Rattle.checking.proofs.ranking.Ranking.reset.Goals as goal
 use Rattle.checking.proofs.ranking.Ranking.reset.Goals.{then-is_target, else-is_target}
-
-pub loop-phase-init : goal.loop-phase-init
-loop-phase-init c = (resetting_start _ _ c.requires, omega arith)
-
-pub loop-state-init : goal.loop-state-init
-loop-state-init c = (c.loop-phase.invariant.0, rw c.empty-set.ensures (gather_none _), c.loop-phase.invariant.1)
 
 pub loop-state-preserved : goal.loop-state-preserved
 loop-state-preserved c =
@@ -44,10 +38,7 @@ loop-phase-preserved c =
       i.2,
     )
 
-pub returns : goal.returns
-returns c =
-    let i = c.loop-phase.invariant in
-    record {
-      after = record { layers = resetting_layers _ _ c.loop-phase.phase (omega (arith, c.phases-phase-end.ensures, c.loop-phase-test.false)) i.0; tracks = resetting_tracks _ _ c.loop-phase.phase (omega (arith, c.phases-phase-end.ensures, c.loop-phase-test.false)) i.0 };
-      zeros = i.1;
-    }
+pub returns-clause-after : goal.returns-clause-after
+returns-clause-after c =
+    let end : (played c.args.seat.now).phases ≤ c.loop-phase.phase = omega (arith, c.phases-phase-end.ensures, c.loop-phase-test.false) in
+    record { layers = resetting_layers _ _ c.loop-phase.phase end c.loop-phase.invariant.0; tracks = resetting_tracks _ _ c.loop-phase.phase end c.loop-phase.invariant.0 }
