@@ -1,15 +1,18 @@
 -- What a pass over the positions knows on its way: layer by layer, giving up goals, keeping the targets alone.
-use Rattle.std.proofs.Common.{◌≡◌, ℕ, ◌+◌, ◌*◌, ◌<◌, ◌≤◌, Bool, true, false, ◌&&◌, ◌||◌, eqb, ltb, ◌≢◌, List, [], length, get_or, set, vec_items, sym, refl, ap, ◌∙◌, subst, inl, inr, arith, length-set, get_or-set_other, get_or-set_same}
+use Rattle.std.proofs.Common.{◌≡◌, ℕ, ◌+◌, ◌*◌, ◌<◌, ◌≤◌, Bool, true, false, ◌||◌, eqb, ltb, ◌≢◌, List, length, get_or, set, vec_items, replicate, sym, refl, ap, ◌∙◌, subst, inl, inr, arith, length-set, get_or-set_other, get_or-set_same}
 use mathlib.Core.Path.{fun_ext}
-use Rattle.std.proofs.lemmas.Bool.{cases_lt, cases_eq, lt-ltb, le-ltb, eq-eqb, ne_eqb, false≢true, true≢false}
+use Rattle.std.proofs.Math.Bool.{or-false, or-true}
+use Rattle.std.proofs.lemmas.List.{get_or-replicate}
+use Rattle.std.proofs.lemmas.Bool.{cases_lt, cases_eq, ltb-true, lt-ltb, le-ltb, eq-eqb, ne_eqb, false≢true, true≢false}
 use Rattle.checking.specs.declared.state_set.StateSet.{StateSet}
+use Rattle.checking.specs.declared.ranking.Entry.{Entry}
 use Rattle.checking.specs.declared.ranking.Ranking.{Ranking}
 use Rattle.checking.specs.StateSets.{member, nothing}
 use Rattle.checking.specs.Arenas.{Arena}
 use Rattle.checking.specs.Controllers.{Plan, Kept, Rival}
-use Rattle.checking.specs.Solving.{held, Lowest, Tracks, Least, Stable, Layers, Bounded, Before, Written, ranks_in, choices_in, zeros, Layering, Joining, Barred, Target, Fresh, Resetting, Pruning, Chosen, Dropped}
+use Rattle.checking.specs.Solving.{absent, held, Lowest, Tracks, Least, Stable, Attracted, Layers, Bounded, Before, Written, ranks_in, choices_in, zeros, Layering, Joining, Barred, Target, Fresh, Resetting, Pruning, Chosen, Dropped, Renewed}
 use Rattle.checking.proofs.PlaceLaws.{held_in, held_or, before_none, before_next, before_turn, before_all}
-use Rattle.checking.proofs.SnapshotLaws.{Gathered, gather_skip, gathered_in}
+use Rattle.checking.proofs.SnapshotLaws.{Gathered, gather_skip}
 use Rattle.checking.proofs.AttractorLaws.{leads_into, first_lowest, rival_leads, layered_least, full_else, layer_done, layered_stable, written_all, full_join, join, fresh_none, fresh_zero, fresh_layers}
 
 -- a rank that is not d is below d exactly if it is below d + 1
@@ -90,18 +93,16 @@ module _ (a : Arena) (z : Ranking) (next : List StateSet) (d p : ℕ) (end : a.p
   pub layering_done : Layers a z (d + 1) (d + 1)
   layering_done = layer_done a _ _ (d + 1) d i.layered (before_all a _ p end i.done)
 
-  -- nothing was added to layers that were there before
-  pub layering_quiet : (old : Ranking) → Layers a old d d → vec_items z.ranks ≡ vec_items old.ranks → Layers a z d (d + 1)
-  layering_quiet old l e = layer_done a _ _ d d
+  -- where the sets stay, nothing was added
+  pub layering_quiet : next ≡ z.ranked → Layers a z d (d + 1)
+  layering_quiet same = layer_done a _ _ d d
       (record {
         grown = i.layered.grown;
-        low = λ s q h. subst (λ (n : ℕ). n < 65535 → n < d) (sym (same s q)) (l.low s q) h;
+        low = λ s q h. (let y = (i.layered.grown.shaped s q).inside h in
+            ltb-true _ d (sym (i.present s q y.1) ∙ ap (λ l. member (get_or l q nothing) s) (sym same) ∙ i.coming s q y.1 ∙ lt-ltb _ (d + 1) (omega (arith, i.layered.low s q h))));
         full = i.layered.full;
       })
       (before_all a _ p end i.done)
-    where
-      same : (s q : ℕ) → ranks_in a z s q ≡ ranks_in a old s q
-      same s q = ap (λ k. held a 65535 k s q) e
 
 -- keeping the targets alone
 
@@ -114,7 +115,7 @@ resetting_start a z least = record {
 
 -- the states of a phase, before state s, whose rank is 0
 abbrev pub KeptIn : Arena → Ranking → ℕ → StateSet → ℕ → Type 0
-KeptIn a z p set s = Gathered (λ t. ltb (ranks_in a z t p) 1) set s
+KeptIn a z p set s = Gathered (λ t b. b ≡ ltb (ranks_in a z t p) 1) set s
 
 module _ (a : Arena) (z : Ranking) (p s : ℕ) (hs : s < a.states) (hp : p < a.phases) (i : Resetting a z p s) where
   pub resetting_keep : Target a z s p → Resetting a z p (s + 1)
@@ -142,41 +143,34 @@ module _ (a : Arena) (z : Ranking) (p s : ℕ) (hs : s < a.states) (hp : p < a.p
         other t q n = elim (w.there t q) [ inl e ↦ e.0 | inr e ↦ absurd (n e.1) ]
 
     pub kept_clear : (set : StateSet) → KeptIn a z p set s → KeptIn a new p set (s + 1)
-    kept_clear set g = gather_skip _ set s (λ u. g u ∙ (elim (cases_lt u s) [
-      | inl l ↦ ap (λ n. ltb u s && ltb n 1) (sym (earlier u l))
-      | inr l ↦ ap (λ c. c && ltb (ranks_in a z u p) 1) (le-ltb u s l) ∙ sym (ap (λ c. c && ltb (ranks_in a new u p) 1) (le-ltb u s l))
-    ])) (ap (λ n. ltb n 1) w.rank)
+    kept_clear set g = gather_skip _ set s (record { below = λ u l. g.below u l ∙ ap (λ n. ltb n 1) (sym (earlier u l)); above = g.above }) (ap (λ n. ltb n 1) (sym w.rank))
       where
         earlier : (u : ℕ) → u < s → ranks_in a new u p ≡ ranks_in a z u p
         earlier u l = elim (w.there u p) [ inl e ↦ e.0 | inr e ↦ absurd (omega (arith, e.0)) ]
 
 -- the set of a whole phase
 pub resetting_turn : (a : Arena) (b : Bounded a) (z new : Ranking) (p s : ℕ) (set₁ : StateSet) → a.states ≤ s → p < a.phases → Resetting a z p s → KeptIn a z p set₁ s
-    → vec_items new.ranks ≡ vec_items z.ranks → vec_items new.choices ≡ vec_items z.choices → new.ranked ≡ set z.ranked p set₁ → Resetting a new (p + 1) 0
-resetting_turn a b z new p s set₁ end hp i g er ec es = record {
+    → vec_items new.entries ≡ vec_items z.entries → new.ranked ≡ set z.ranked p set₁ → Resetting a new (p + 1) 0
+resetting_turn a b z new p s set₁ end hp i g e es = record {
   targets = λ r v t q k y. rank_same t q ∙ i.targets r v t q k y;
   done = before_turn a _ p s end (λ t q ht h. rw (rank_same t q, choice_same t q) (i.done t q ht h));
   sets = λ t q h. ap (λ l. member (get_or l q nothing) t) es ∙ at t q h ∙ ap (λ n. ltb n 1) (sym (rank_same t q));
 }
   where
     rank_same : (t q : ℕ) → ranks_in a new t q ≡ ranks_in a z t q
-    rank_same t q = ap (λ l. held a 65535 l t q) er
+    rank_same t q = ap (λ l. (held a l t q).rank) e
 
     choice_same : (t q : ℕ) → choices_in a new t q ≡ choices_in a z t q
-    choice_same t q = ap (λ l. held a 255 l t q) ec
+    choice_same t q = ap (λ l. (held a l t q).choice) e
 
     whole : (t : ℕ) → member set₁ t ≡ ltb (ranks_in a z t p) 1
-    whole t = elim (cases_lt t a.states) [
-      | inl l ↦ gathered_in _ set₁ s g t (omega arith)
+    whole t = elim (cases_lt t s) [
+      | inl l ↦ g.below t l
       | inr l ↦ elim (held_or a t p) [
-        | inl o ↦ (let none : ltb (ranks_in a z t p) 1 ≡ false = ap (λ n. ltb n 1) (o 65535 (vec_items z.ranks)) in g t ∙ right (ltb t s) (ltb (ranks_in a z t p) 1) none ∙ sym none)
-        | inr h ↦ absurd (omega (arith, h.0))
+        | inl o ↦ g.above t l ∙ sym (ap (λ y. ltb y.rank 1) (o.1 (vec_items z.entries)))
+        | inr h ↦ absurd (omega (arith, h.0, l, end))
       ]
     ]
-      where
-        right : (x y : Bool) → y ≡ false → (x && y) ≡ false
-        right true y h = h
-        right false y h = refl
 
     at : (t q : ℕ) → q < p + 1 → member (get_or (set z.ranked p set₁) q nothing) t ≡ ltb (ranks_in a z t q) 1
     at t q h = elim (cases_eq q p) [
@@ -191,12 +185,9 @@ resetting_turn a b z new p s set₁ end hp i g er ec es = record {
 module _ (a : Arena) (z : Ranking) (p : ℕ) (end : a.phases ≤ p) (i : Resetting a z p 0) where
   pub resetting_layers : Layers a z 1 1
   resetting_layers = fresh_layers a _ _ (λ s q. elim (held_or a s q) [
-    | inl o ↦ rw (o 65535 (vec_items z.ranks), o 255 (vec_items z.choices)) (fresh_none a s q (λ r v k _. outside s q o (v.inside s q k)))
+    | inl o ↦ subst (λ (e : Entry). Fresh a s q e.rank e.choice) (sym (o.1 (vec_items z.entries))) (fresh_none a s q (λ r v k _. o.0 (v.inside s q k)))
     | inr h ↦ before_all a _ p end i.done s q h.0 h.1
   ])
-    where
-      outside : (s q : ℕ) → ((n : ℕ) (l : List ℕ) → held a n l s q ≡ n) → (s < a.states) × (q < a.phases) → ⊥
-      outside s q o h = omega (arith, o 1 [], held_in a 1 [] s q h.0 h.1, o 2 [], held_in a 2 [] s q h.0 h.1)
 
   pub resetting_tracks : Tracks a z.ranked (ranks_in a z) 1
   resetting_tracks t q hq = i.sets t q (omega arith)
@@ -217,7 +208,7 @@ pruning_start a z l = record {
   fewer = λ e. absurd (false≢true e);
 }
 
-module _ (a : Arena) (b : Bounded a) (old z : Ranking) (p s : ℕ) (flag : Bool) (tr : Tracks a old.ranked (ranks_in a old) 65535) (l : Layers a old 65535 65535) (i : Pruned a old z p s flag) where
+module _ (a : Arena) (b : Bounded a) (old z : Ranking) (p s : ℕ) (flag : Bool) (before : Attracted a old 65535) (i : Pruned a old z p s flag) where
   pub pruning_skip : (ranks_in a z s p ≡ 0 → ⊥) → Pruned a old z p (s + 1) flag
   pruning_skip n = record {
     pruning = record {
@@ -244,7 +235,7 @@ module _ (a : Arena) (b : Bounded a) (old z : Ranking) (p s : ℕ) (flag : Bool)
     fewer = i.fewer;
   }
 
-  module _ (new : Ranking) (same : new.ranked ≡ z.ranked) (e : ranks_in a z s p ≡ 0) where
+  module _ (new : Ranking) (e : ranks_in a z s p ≡ 0) where
     -- what stood at the target before
     was : ranks_in a old s p ≡ 0
     was = elim (cases_eq (ranks_in a old s p) 0) [ inl h ↦ h | inr n ↦ absurd (n (sym (i.pruning.rest s p n).0 ∙ e)) ]
@@ -262,21 +253,21 @@ module _ (a : Arena) (b : Bounded a) (old z : Ranking) (p s : ℕ) (flag : Bool)
         (λ _. here) (λ t q f. f) t q (i.pruning.onward t q ht h))
         (rw (w.rank, w.choice) here)
 
-    pub pruning_choose : Chosen a z new s p → Pruned a old new p (s + 1) flag
-    pruning_choose c = record {
+    pruning_choose : new.ranked ≡ z.ranked → Chosen a z new s p → Pruned a old new p (s + 1) flag
+    pruning_choose same c = record {
       pruning = record {
         least = λ r v. written_all a z new s p 0 c.own c.written (λ t q n x. Kept r t q → n ≤ r.rank t q) (λ _. omega arith) (i.pruning.least r v);
         sets = same ∙ i.pruning.sets;
         rest = rest_after 0 c.own c.written;
-        onward = onward_after 0 c.own c.written (λ _. first_lowest a old.ranked (ranks_in a old) 65535 b tr s p c.own (rw i.pruning.sets at c.first));
+        onward = onward_after 0 c.own c.written (λ _. first_lowest a old.ranked (ranks_in a old) 65535 b before.tracks s p c.own (rw i.pruning.sets at c.first));
       };
       calm = λ f. written_all a z new s p 0 c.own c.written (λ t q n x. n ≡ ranks_in a old t q) (sym was) (i.calm f);
       few = omega (arith, c.zeros, i.few);
       fewer = λ f. omega (arith, c.zeros, i.fewer f);
     }
 
-    pub pruning_drop : Dropped a z new s p → Pruned a old new p (s + 1) true
-    pruning_drop c = record {
+    pruning_drop : new.ranked ≡ z.ranked → Dropped a z new s p → Pruned a old new p (s + 1) true
+    pruning_drop same c = record {
       pruning = record {
         least = λ r v. written_all a z new s p 65535 255 c.written (λ t q n x. Kept r t q → n ≤ r.rank t q) (λ k. absurd (stuck r v k)) (i.pruning.least r v);
         sets = same ∙ i.pruning.sets;
@@ -290,8 +281,12 @@ module _ (a : Arena) (b : Bounded a) (old z : Ranking) (p s : ℕ) (flag : Bool)
       where
         stuck : (r : Plan) → Rival a r → Kept r s p → ⊥
         stuck r v k =
-            let lead = rival_leads a (ranks_in a old) (choices_in a old) (layered_least a _ _ l) r v s p k in
-            c.stuck (r.choice s p) (rw i.pruning.sets (leads_into a old.ranked (ranks_in a old) 65535 b tr s p (r.choice s p) lead))
+            let lead = rival_leads a (ranks_in a old) (choices_in a old) (layered_least a _ _ before.layers) r v s p k in
+            c.stuck (r.choice s p) (rw i.pruning.sets (leads_into a old.ranked (ranks_in a old) 65535 b before.tracks s p (r.choice s p) lead))
+
+    pub pruning_renew : (r : Bool) → Renewed a z new s p r → Pruned a old new p (s + 1) (flag || r)
+    pruning_renew false w = subst (Pruned a old new p (s + 1)) (sym (or-false flag)) (pruning_choose w.0 (w.1 e))
+    pruning_renew true w = subst (Pruned a old new p (s + 1)) (sym (or-true flag)) (pruning_drop w.0 w.1)
 
 -- nothing given up: the ranks are stable
 pub pruning_stable : (a : Arena) (old z : Ranking) (p : ℕ) (flag : Bool) → Layers a old 65535 65535 → a.phases ≤ p → Pruned a old z p 0 flag → flag ≡ false → Stable a (ranks_in a z) (choices_in a z)
@@ -305,7 +300,9 @@ pruning_stable a old z p flag l end i f =
         before_all a _ p end i.pruning.onward t q y.0 y.1 (i.calm f t q ∙ e)
 
 -- ranks of 0 are below any rival's
-pub zero_least : (a : Arena) (b : Bounded a) (z : Ranking) → ((j : ℕ) → j < 8 * a.states → get_or (vec_items z.ranks) j 0 ≡ 0) → Least a (ranks_in a z)
-zero_least a b z zs r v s p k =
-    let i = v.inside s p k in
-    omega (arith, held_in a 65535 (vec_items z.ranks) s p i.0 i.1, zs (8 * s + p) (omega (arith, i.0, i.1, b.few_phases)))
+pub zero_least : (a : Arena) (b : Bounded a) (l : List Entry) (n : ℕ) (v : Entry) → v.rank ≡ 0 → 2048 ≤ n → l ≡ replicate n v → Least a (λ s p. (held a l s p).rank)
+zero_least a b l n v e long all r w s p k =
+    let i = w.inside s p k in
+    let there : held a l s p ≡ v = held_in a l s p i.0 i.1 ∙ ap (λ y. get_or y (8 * s + p) absent) all ∙ get_or-replicate n (8 * s + p) v absent (omega (arith, long, i.0, i.1, b.few_states, b.few_phases)) in
+    let zero : (held a l s p).rank ≡ 0 = ap (λ (y : Entry). y.rank) there ∙ e in
+    omega (arith, zero)

@@ -2,21 +2,22 @@
 use Rattle.std.proofs.Common.{◌≡◌, ℕ, ◌+◌, ◌*◌, ◌<◌, ◌≤◌, cond, eqb, ◌⊎◌, List, length, get_or, set, vec_items, count_by, sym, ap, ◌∙◌, inl, inr, arith, get_or-set_other, get_or-set_same}
 use Rattle.std.proofs.lemmas.List.Sums.{sum_by-set}
 use Rattle.std.proofs.lemmas.Bool.{cases_lt, cases_eq, lt-ltb, le-ltb, eq-eqb, ne_eqb}
+use Rattle.checking.specs.declared.ranking.Entry.{Entry}
 use Rattle.checking.specs.declared.ranking.Ranking.{Ranking}
 use Rattle.checking.specs.Arenas.{Arena}
-use Rattle.checking.specs.Solving.{held, Bounded, Before, Written, ranks_in, zeros}
+use Rattle.checking.specs.Solving.{absent, held, Bounded, Before, Written, ranks_in, zeros}
 
-pub held_in : (a : Arena) (n : ℕ) (l : List ℕ) (s p : ℕ) → s < a.states → p < a.phases → held a n l s p ≡ get_or l (8 * s + p) 0
+pub held_in : (a : Arena) (l : List Entry) (s p : ℕ) → s < a.states → p < a.phases → held a l s p ≡ get_or l (8 * s + p) absent
 unfolding held
-held_in a n l s p hs hp = rw (lt-ltb s a.states hs, lt-ltb p a.phases hp)
+held_in a l s p hs hp = rw (lt-ltb s a.states hs, lt-ltb p a.phases hp)
 
-pub held_or : (a : Arena) (s p : ℕ) → ((n : ℕ) (l : List ℕ) → held a n l s p ≡ n) ⊎ ((s < a.states) × (p < a.phases))
+pub held_or : (a : Arena) (s p : ℕ) → (((s < a.states) × (p < a.phases) → ⊥) × ((l : List Entry) → held a l s p ≡ absent)) ⊎ ((s < a.states) × (p < a.phases))
 unfolding held
 held_or a s p = elim (cases_lt s a.states) [
-  | inr h ↦ inl (λ n l. rw (le-ltb s a.states h))
+  | inr h ↦ inl (λ i. omega (arith, i.0), λ l. rw (le-ltb s a.states h))
   | inl hs ↦ elim (cases_lt p a.phases) [
     | inl hp ↦ inr (hs, hp)
-    | inr h ↦ inl (λ n l. rw (lt-ltb s a.states hs, le-ltb p a.phases h))
+    | inr h ↦ inl (λ i. omega (arith, i.1), λ l. rw (lt-ltb s a.states hs, le-ltb p a.phases h))
   ]
 ]
 
@@ -42,69 +43,65 @@ module _ (a : Arena) (F : ℕ → ℕ → Type 0) where
   pub before_all : (p : ℕ) → a.phases ≤ p → Before a p 0 F → (t q : ℕ) → t < a.states → q < a.phases → F t q
   before_all p end all t q ht hq = all t q ht (inl (omega arith))
 
-ranks_long : (z : Ranking) → length (vec_items z.ranks) ≡ 2048
-ranks_long z = sym z.ranks.ok.0 ∙ z.many_ranks
-
-choices_long : (z : Ranking) → length (vec_items z.choices) ≡ 2048
-choices_long z = sym z.choices.ok.0 ∙ z.many_choices
-
 module _ (a : Arena) (b : Bounded a) (s p : ℕ) (hs : s < a.states) (hp : p < a.phases) where
   -- one position stands at a place
   same : (t q : ℕ) → q < a.phases → 8 * t + q ≡ 8 * s + p → (t ≡ s) × (q ≡ p)
   same t q hq e = let f = b.few_phases in (omega arith, omega arith)
 
-  inside : 8 * s + p < 2048
-  inside = omega (arith, b.few_phases, b.few_states)
+  inside : (z : Ranking) → 8 * s + p < length (vec_items z.entries)
+  inside z = omega (arith, b.few_phases, b.few_states, z.entries.ok.0, z.many)
 
-  set_here : (n v : ℕ) (l : List ℕ) → length l ≡ 2048 → held a n (set l (8 * s + p) v) s p ≡ v
-  set_here n v l e = let lt : 8 * s + p < length l = omega (arith, inside) in held_in a n (set l (8 * s + p) v) s p hs hp ∙ rw get_or-set_same
+  pub rank_here : (z : Ranking) → ranks_in a z s p ≡ (get_or (vec_items z.entries) (8 * s + p) absent).rank
+  rank_here z = ap (λ e. e.rank) (held_in a (vec_items z.entries) s p hs hp)
 
-  set_there : (t q : ℕ) → ((n v : ℕ) (l : List ℕ) → held a n (set l (8 * s + p) v) t q ≡ held a n l t q) ⊎ ((t ≡ s) × (q ≡ p))
-  set_there t q = elim (held_or a t q) [
-    | inl o ↦ inl (λ n v l. o n (set l (8 * s + p) v) ∙ sym (o n l))
-    | inr i ↦ elim (cases_eq (8 * t + q) (8 * s + p)) [
-      | inl e ↦ inr (same t q i.1 e)
-      | inr ne ↦ inl (λ n v l. held_in a n (set l (8 * s + p) v) t q i.0 i.1 ∙ (rw get_or-set_other (sym (held_in a n l t q i.0 i.1))))
+  -- an entry that was read
+  pub rank_read : (z : Ranking) (e : Entry) → e ≡ get_or (vec_items z.entries) (8 * s + p) absent → ranks_in a z s p ≡ e.rank
+  rank_read z e r = rank_here z ∙ ap (λ y. y.rank) (sym r)
+
+  module _ (old new : Ranking) (v : Entry) (e : vec_items new.entries ≡ set (vec_items old.entries) (8 * s + p) v) where
+    set_here : held a (vec_items new.entries) s p ≡ v
+    set_here = let lt = inside old in held_in a (vec_items new.entries) s p hs hp ∙ ap (λ l. get_or l (8 * s + p) absent) e ∙ rw get_or-set_same
+
+    set_there : (t q : ℕ) → (held a (vec_items new.entries) t q ≡ held a (vec_items old.entries) t q) ⊎ ((t ≡ s) × (q ≡ p))
+    set_there t q = elim (held_or a t q) [
+      | inl o ↦ inl (o.1 (vec_items new.entries) ∙ sym (o.1 (vec_items old.entries)))
+      | inr i ↦ elim (cases_eq (8 * t + q) (8 * s + p)) [
+        | inl n ↦ inr (same t q i.1 n)
+        | inr n ↦ inl (held_in a (vec_items new.entries) t q i.0 i.1 ∙ ap (λ l. get_or l (8 * t + q) absent) e ∙ (rw get_or-set_other (sym (held_in a (vec_items old.entries) t q i.0 i.1))))
+      ]
     ]
-  ]
 
-  pub written : (old new : Ranking) (n x : ℕ) → vec_items new.ranks ≡ set (vec_items old.ranks) (8 * s + p) n
-      → vec_items new.choices ≡ set (vec_items old.choices) (8 * s + p) x → Written a old new s p n x
-  written old new n x e f = record {
-    rank = ap (λ l. held a 65535 l s p) e ∙ set_here 65535 n (vec_items old.ranks) (ranks_long old);
-    choice = ap (λ l. held a 255 l s p) f ∙ set_here 255 x (vec_items old.choices) (choices_long old);
-    there = λ t q. elim (set_there t q) [
-      | inl h ↦ inl (ap (λ l. held a 65535 l t q) e ∙ h 65535 n (vec_items old.ranks), ap (λ l. held a 255 l t q) f ∙ h 255 x (vec_items old.choices))
-      | inr h ↦ inr h
-    ];
-  }
+    pub written : Written a old new s p v.rank v.choice
+    written = record {
+      rank = ap (λ y. y.rank) set_here;
+      choice = ap (λ y. y.choice) set_here;
+      there = λ t q. elim (set_there t q) [
+        | inl h ↦ inl (ap (λ y. y.rank) h, ap (λ y. y.choice) h)
+        | inr h ↦ inr h
+      ];
+    }
 
-  pub rank_here : (z : Ranking) → ranks_in a z s p ≡ get_or (vec_items z.ranks) (8 * s + p) 0
-  rank_here z = held_in a 65535 (vec_items z.ranks) s p hs hp
+    -- zeros before and after a write
+    counted : zeros new + cond (eqb (ranks_in a old s p) 0) 1 0 ≡ zeros old + cond (eqb v.rank 0) 1 0
+    counted =
+        let w = sum_by-set (λ (x : Entry). cond (eqb x.rank 0) 1 0) (vec_items old.entries) (8 * s + p) v absent (inside old) in
+        ap (λ k. count_by (λ (x : Entry). eqb x.rank 0) k + cond (eqb (ranks_in a old s p) 0) 1 0) e
+        ∙ ap (λ k. count_by (λ (x : Entry). eqb x.rank 0) (set (vec_items old.entries) (8 * s + p) v) + cond (eqb k 0) 1 0) (rank_here old) ∙ (omega (arith, w))
 
-  -- zeros before and after a write
-  counted : (old new : Ranking) (n : ℕ) → vec_items new.ranks ≡ set (vec_items old.ranks) (8 * s + p) n
-      → zeros new + cond (eqb (get_or (vec_items old.ranks) (8 * s + p) 0) 0) 1 0 ≡ zeros old + cond (eqb n 0) 1 0
-  counted old new n e =
-      let lt : 8 * s + p < length (vec_items old.ranks) = omega (arith, inside, ranks_long old) in
-      let w = sum_by-set (λ (x : ℕ). cond (eqb x 0) 1 0) (vec_items old.ranks) (8 * s + p) n 0 lt in
-      ap (λ k. count_by (λ x. eqb x 0) k + cond (eqb (get_or (vec_items old.ranks) (8 * s + p) 0) 0) 1 0) e ∙ (omega (arith, w))
-
-  module _ (old new : Ranking) (n : ℕ) (e : vec_items new.ranks ≡ set (vec_items old.ranks) (8 * s + p) n) where
     one : (x : ℕ) → x ≡ 0 → ◌≡◌ {A = ℕ} (cond (eqb x 0) 1 0) 1
     one x h = rw (eq-eqb x 0 h)
 
     none : (x : ℕ) → 0 < x → ◌≡◌ {A = ℕ} (cond (eqb x 0) 1 0) 0
     none x h = rw (ne_eqb x 0 (λ q. omega arith))
 
-    pub zeros_same : 0 < n → 0 < ranks_in a old s p → zeros new ≡ zeros old
-    zeros_same h k = omega (arith, counted old new n e, none n h, none (get_or (vec_items old.ranks) (8 * s + p) 0) (omega (arith, rank_here old)))
+    pub zeros_same : 0 < v.rank → 0 < ranks_in a old s p → zeros new ≡ zeros old
+    zeros_same h k = omega (arith, counted, none v.rank h, none (ranks_in a old s p) k)
 
-    pub zeros_kept : n ≡ 0 → ranks_in a old s p ≡ 0 → zeros new ≡ zeros old
-    zeros_kept h k = omega (arith, counted old new n e, one n h, one (get_or (vec_items old.ranks) (8 * s + p) 0) (sym (rank_here old) ∙ k))
+    pub zeros_kept : v.rank ≡ 0 → ranks_in a old s p ≡ 0 → zeros new ≡ zeros old
+    zeros_kept h k = omega (arith, counted, one v.rank h, one (ranks_in a old s p) k)
 
-    pub zeros_fall : 0 < n → ranks_in a old s p ≡ 0 → zeros new < zeros old
-    zeros_fall h k = omega (arith, counted old new n e, none n h, one (get_or (vec_items old.ranks) (8 * s + p) 0) (sym (rank_here old) ∙ k))
+    pub zeros_fall : 0 < v.rank → ranks_in a old s p ≡ 0 → zeros new < zeros old
+    zeros_fall h k = omega (arith, counted, none v.rank h, one (ranks_in a old s p) k)
 
-    pub zeros_few : 0 < n → zeros new ≤ zeros old
-    zeros_few h = omega (arith, counted old new n e, none n h)
+    pub zeros_few : 0 < v.rank → zeros new ≤ zeros old
+    zeros_few h = omega (arith, counted, none v.rank h)

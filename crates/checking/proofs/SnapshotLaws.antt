@@ -1,5 +1,5 @@
 -- Sets of states that a loop gathers, and the snapshot that is made of them.
-use Rattle.std.proofs.Common.{◌≡◌, ℕ, ◌+◌, ◌<◌, Bool, true, false, ◌&&◌, ◌||◌, eqb, ltb, ◌⊎◌, List, sym, refl, ap, ◌∙◌, inl, inr, arith}
+use Rattle.std.proofs.Common.{◌≡◌, ℕ, ◌+◌, ◌/◌, ◌%◌, ◌<◌, ◌≤◌, Bool, true, false, ◌&&◌, ◌||◌, eqb, ltb, ◌⊎◌, List, get_or, sym, refl, ap, ◌∙◌, subst, inl, inr, arith}
 use Rattle.std.proofs.lemmas.Bool.{eq-eqb, ne_eqb, lt-ltb, le-ltb, lt-leb, le-leb, cases_lt, cases_eq, cases_Bool, ltb-true, and_parts, and_from}
 use Rattle.games.specs.Machines.{Model, Marks, Lawful, forbidden_in, goal_in}
 use Rattle.checking.specs.declared.state_set.StateSet.{StateSet}
@@ -7,47 +7,36 @@ use Rattle.checking.specs.StateSets.{member, nothing}
 use Rattle.checking.specs.Snapshots.{row_of, rows_move, set_forbidden, set_goal}
 use Rattle.checking.proofs.StateSetLaws.{none_in}
 
--- a set has the states below i that pass the test
-abbrev pub Gathered : (ℕ → Bool) → StateSet → ℕ → Type 0
-Gathered f x i = (u : ℕ) → member x u ≡ (ltb u i && f u)
+-- of the states below i a set has those that pass, and it has no other
+pub record Gathered (P : ℕ → Bool → Type 0) (x : StateSet) (i : ℕ) : Type 0 where
+  pub below : (u : ℕ) → u < i → P u (member x u)
+  pub above : (u : ℕ) → i ≤ u → member x u ≡ false
 
-pub gather_none : (f : ℕ → Bool) → Gathered f nothing 0
-gather_none f u = none_in nothing refl refl u ∙ ap (λ b. b && f u) (sym (le-ltb u 0 (omega arith)))
+module _ (P : ℕ → Bool → Type 0) where
+  pub gather_none : Gathered P nothing 0
+  gather_none = record { below = λ u h. absurd (omega arith); above = λ u h. none_in nothing refl refl u }
 
-module _ (f : ℕ → Bool) (x : StateSet) (i : ℕ) (g : Gathered f x i) where
-  -- the test one state further
-  further : (u : ℕ) → (u ≡ i → ⊥) → (ltb u i && f u) ≡ (ltb u (i + 1) && f u)
-  further u n = elim (cases_lt u i) [
-    | inl l ↦ ap (λ b. b && f u) (lt-ltb u i l ∙ sym (lt-ltb u (i + 1) (omega arith)))
-    | inr l ↦ ap (λ b. b && f u) (le-ltb u i l ∙ sym (le-ltb u (i + 1) (omega arith)))
-  ]
+  module _ (x : StateSet) (i : ℕ) (g : Gathered P x i) where
+    pub gather_put : (y : StateSet) → ((u : ℕ) → member y u ≡ (eqb u i || member x u)) → P i true → Gathered P y (i + 1)
+    gather_put y put p = record {
+      below = λ u h. elim (cases_eq u i) [
+        | inl e ↦ subst (P u) (sym (put u ∙ ap (λ b. b || member x u) (eq-eqb u i e))) (subst (λ v. P v true) (sym e) p)
+        | inr n ↦ subst (P u) (sym (other u n)) (g.below u (omega (arith, n)))
+      ];
+      above = λ u h. other u (λ e. omega arith) ∙ g.above u (omega arith);
+    }
+      where
+        other : (u : ℕ) → (u ≡ i → ⊥) → member y u ≡ member x u
+        other u n = put u ∙ ap (λ b. b || member x u) (ne_eqb u i n)
 
-  pub gather_put : (y : StateSet) → ((u : ℕ) → member y u ≡ (eqb u i || member x u)) → f i ≡ true → Gathered f y (i + 1)
-  gather_put y put e u = elim (cases_eq u i) [
-    | inl q ↦ put u ∙ ap (λ b. b || member x u) (eq-eqb u i q) ∙ sym (and_from _ _ (lt-ltb u (i + 1) (omega arith)) (ap f q ∙ e))
-    | inr n ↦ put u ∙ ap (λ b. b || member x u) (ne_eqb u i n) ∙ g u ∙ further u n
-  ]
-
-  pub gather_skip : f i ≡ false → Gathered f x (i + 1)
-  gather_skip e u = elim (cases_eq u i) [
-    | inl q ↦ g u ∙ ap (λ b. b && f u) (le-ltb u i (omega arith)) ∙ sym (right (ltb u (i + 1)) (f u) (ap f q ∙ e))
-    | inr n ↦ g u ∙ further u n
-  ]
-    where
-      right : (a b : Bool) → b ≡ false → (a && b) ≡ false
-      right true b h = h
-      right false b h = refl
-
-  -- of a state below the end
-  pub gathered_in : (u : ℕ) → u < i → member x u ≡ f u
-  gathered_in u l = g u ∙ ap (λ b. b && f u) (lt-ltb u i l)
-
-  -- of any state, if none from the end up passes
-  pub gathered_all : ((u : ℕ) → f u ≡ true → u < i) → (u : ℕ) → member x u ≡ f u
-  gathered_all low u = elim (cases_lt u i) [
-    | inl l ↦ gathered_in u l
-    | inr l ↦ g u ∙ ap (λ b. b && f u) (le-ltb u i l) ∙ (elim (cases_Bool (f u)) [ inl t ↦ absurd (omega (arith, low u t)) | inr h ↦ sym h ])
-  ]
+    pub gather_skip : P i false → Gathered P x (i + 1)
+    gather_skip p = record {
+      below = λ u h. elim (cases_eq u i) [
+        | inl e ↦ subst (P u) (sym (g.above u (omega arith))) (subst (λ v. P v false) (sym e) p)
+        | inr n ↦ g.below u (omega (arith, n))
+      ];
+      above = λ u h. g.above u (omega arith);
+    }
 
 -- a move out of range is none
 pub no_move : (m : Model) → Lawful m → (s x b t : ℕ) → ((s < m.states) × (x < 4) × (b < 4) → ⊥) → m.move s x b t ≡ false
@@ -67,6 +56,10 @@ module _ (n : ℕ) (rows : List StateSet) (s x b : ℕ) where
       out : ((ltb s n && (ltb x 4 && ltb b 4)) ≡ true) ⊎ ((ltb s n && (ltb x 4 && ltb b 4)) ≡ false) → (ltb s n && (ltb x 4 && ltb b 4)) ≡ false
       out (inl e) = let h = and_parts _ _ e in let k = and_parts _ _ h.1 in absurd (never (ltb-true s n h.0, ltb-true x 4 k.0, ltb-true b 4 k.1))
       out (inr e) = e
+
+-- the rows below a place hold the moves
+abbrev pub Filled : Model → List StateSet → ℕ → Type 0
+Filled m rows k = (j : ℕ) → j < k → (t : ℕ) → member (get_or rows j nothing) t ≡ m.move (j / 16) (j % 16 / 4) (j % 16 % 4) t
 
 module _ (m : Model) (w : Lawful m) (n : ℕ) (e : n ≡ m.states) where
   pub moves_taken : (rows : List StateSet) → ((s x b t : ℕ) → s < m.states → x < 4 → b < 4 → member (row_of rows s x b) t ≡ m.move s x b t) → (s x b t : ℕ) → rows_move n rows s x b t ≡ m.move s x b t

@@ -1,5 +1,5 @@
 -- From a settled ranking and its written record to the answer of solving.
-use Rattle.std.proofs.Common.{◌≡◌, ℕ, zero, suc, ◌+◌, ◌*◌, ◌/◌, ◌%◌, ◌<◌, ◌≤◌, true, false, ◌&&◌, ltb, ◌⊎◌, List, length, drop, None, Ok, sym, ap, ◌∙◌, subst, inl, inr, arith}
+use Rattle.std.proofs.Common.{◌≡◌, ℕ, zero, suc, ◌+◌, ◌*◌, ◌/◌, ◌%◌, ◌<◌, ◌≤◌, true, false, ◌&&◌, ltb, ◌⊎◌, List, length, drop, vec_items, None, Ok, get_or, refl, sym, ap, ◌∙◌, subst, inl, inr, arith}
 use mathlib.Core.Path.{fun_ext}
 use Rattle.std.proofs.lemmas.List.{get_or-take, get_or-drop}
 use Rattle.std.proofs.lemmas.Bool.{cases_lt, lt-ltb, le-ltb, eq-eqb, cond-false}
@@ -13,15 +13,19 @@ use Rattle.games.specs.Sets.{width, pick}
 use Rattle.games.proofs.SetLaws.{in_words}
 use Rattle.games.specs.Machines.{Model, Marks}
 use Rattle.games.specs.Machines.{Lawful as LawfulMachine}
+use Rattle.checking.specs.declared.ranking.Entry.{Entry}
 use Rattle.checking.specs.declared.ranking.Ranking.{Ranking}
-use Rattle.checking.specs.Arenas.{Arena, arena, promised, Suits}
+use Rattle.checking.specs.declared.snapshot.Snapshot.{Snapshot}
+use Rattle.checking.specs.Snapshots.{Taken, snap_arena}
+use Rattle.checking.specs.Arenas.{Arena, arena, promised, suits, Suits}
 use Rattle.checking.specs.Controllers.{Plan, plan_in, Kept}
 use Rattle.checking.specs.Checks.{Sized, Ranked, answer}
-use Rattle.checking.specs.Solutions.{Solved, Solution, record_size, solve_head, Found}
-use Rattle.checking.specs.Solving.{Stable, Bounded, held, ranks_in, choices_in, Wrote}
-use Rattle.checking.proofs.CheckLaws.{suits_to, ranked_to}
-use Rattle.checking.proofs.PlaceLaws.{held_or}
-use Rattle.checking.proofs.SolutionLaws.{solved, starts, none_controls}
+use Rattle.checking.specs.Solutions.{Solved, Solution, record_size, solve_head, Found, Refused}
+use Rattle.checking.specs.Solving.{absent, Stable, Bounded, ranks_in, choices_in, Wrote}
+use Rattle.checking.proofs.CheckLaws.{suits_from, suits_to, ranked_to}
+use Rattle.checking.proofs.PlayLaws.{snap_bounded}
+use Rattle.checking.proofs.PlaceLaws.{held_or, rank_read}
+use Rattle.checking.proofs.SolutionLaws.{same_arena, solved, starts, none_controls}
 use Rattle.checking.proofs.UniqueLaws.{same_entries, choice_byte, rank_pair, same_bytes}
 
 -- a promised signal is one of the side's own
@@ -34,9 +38,6 @@ module _ (a : Arena) (z : Ranking) (xs : List ℕ) (w : Wrote a z xs) where
   size_is : size_in xs ≡ a.states * a.phases
   size_is = ap (λ i. i * byte xs 2) w.states ∙ ap (λ i. a.states * i) w.phases
 
-  outside : (s p n : ℕ) → ((s < a.states) × (p < a.phases) → ⊥) → (l : List ℕ) → held a n l s p ≡ n
-  outside s p n never l = elim (held_or a s p) [ inl o ↦ o n l | inr h ↦ absurd (never h) ]
-
   not_inside : (s p : ℕ) → ((s < a.states) × (p < a.phases) → ⊥) → inside (parts_in xs) s p ≡ false
   not_inside s p never = elim (cases_lt s (pair xs 0)) [
     | inr h ↦ ap (λ b. b && ltb p (byte xs 2)) (le-ltb s (pair xs 0) h)
@@ -46,25 +47,19 @@ module _ (a : Arena) (z : Ranking) (xs : List ℕ) (w : Wrote a z xs) where
     ]
   ]
 
-  range : (s p : ℕ) → ((s < a.states) × (p < a.phases)) ⊎ ((s < a.states) × (p < a.phases) → ⊥)
-  range s p = elim (cases_lt s a.states) [
-    | inr h ↦ inr (λ i. omega (arith, i.0))
-    | inl hs ↦ elim (cases_lt p a.phases) [ inr h ↦ inr (λ i. omega (arith, i.1)) | inl hp ↦ inl (hs, hp) ]
-  ]
-
   choice_is : (s p : ℕ) → choice_at (parts_in xs) s p ≡ choices_in a z s p
-  choice_is s p = elim (range s p) [
-    | inl i ↦ choice_byte xs s p (omega (arith, i.0, w.states)) (omega (arith, i.1, w.phases))
+  choice_is s p = elim (held_or a s p) [
+    | inr i ↦ choice_byte xs s p (omega (arith, i.0, w.states)) (omega (arith, i.1, w.phases))
         ∙ ap (λ n. byte xs (4 + (s * n + p))) w.phases ∙ w.choice s p i.0 i.1
-    | inr n ↦ cond-false _ _ _ (not_inside s p n) ∙ sym (outside s p 255 n _)
+    | inl n ↦ cond-false _ _ _ (not_inside s p n.0) ∙ sym (ap (λ e. e.choice) (n.1 (vec_items z.entries)))
   ]
 
   rank_is : (s p : ℕ) → rank_at (parts_in xs) s p ≡ ranks_in a z s p
-  rank_is s p = elim (range s p) [
-    | inl i ↦ rank_pair xs s p (omega (arith, i.0, w.states)) (omega (arith, i.1, w.phases))
+  rank_is s p = elim (held_or a s p) [
+    | inr i ↦ rank_pair xs s p (omega (arith, i.0, w.states)) (omega (arith, i.1, w.phases))
         ∙ ap (λ n. pair xs (4 + n + 2 * (s * byte xs 2 + p))) size_is ∙ ap (λ n. pair xs (4 + a.states * a.phases + 2 * (s * n + p))) w.phases
         ∙ w.rank s p i.0 i.1
-    | inr n ↦ cond-false _ _ _ (not_inside s p n) ∙ sym (outside s p 65535 n _)
+    | inl n ↦ cond-false _ _ _ (not_inside s p n.0) ∙ sym (ap (λ e. e.rank) (n.1 (vec_items z.entries)))
   ]
 
   pub plan_is : plan_in xs ≡ record { choice = choices_in a z; rank = ranks_in a z }
@@ -111,11 +106,11 @@ module _ (m : Model) (k : Marks) (t : PhaseTable) (d : Deal) (side : ℕ) where
       (omega (arith, f.lawful.some_phases)) (same_entries (arena m k t d side) (plan_in xs) (plan_in ys) f.solved g.solved) f.lawful.long g.lawful.long
 
   -- nothing is refused before solving
-  pub head_none : (size : ℕ) → Suits m t d side → size ≡ record_size m.states t.phases → solve_head m t d side size ≡ None
+  head_none : (size : ℕ) → Suits m t d side → size ≡ record_size m.states t.phases → solve_head m t d side size ≡ None
   head_none size s e = of_none _ _ (unless_none _ _ (suits_to m t d side s)) (unless_none _ _ (eq-eqb _ _ e))
 
   module _ (w : LawfulMachine m) (s : Suits m t d side) (z : Ranking) (b : Bounded (arena m k t d side)) (st : Stable (arena m k t d side) (ranks_in (arena m k t d side) z) (choices_in (arena m k t d side) z)) where
-    pub nothing_controls : 65535 ≤ ranks_in (arena m k t d side) z m.start 0 → (xs : List ℕ) → Ranked m k t d side xs → ⊥
+    nothing_controls : 65535 ≤ ranks_in (arena m k t d side) z m.start 0 → (xs : List ℕ) → Ranked m k t d side xs → ⊥
     nothing_controls h xs r = none_controls (arena m k t d side) _ _ st h (plan_in xs) r.controller
 
     module _ (old xs : List ℕ) (size : length old ≡ record_size m.states t.phases) (wr : Wrote (arena m k t d side) z xs) where
@@ -126,7 +121,7 @@ module _ (m : Model) (k : Marks) (t : PhaseTable) (d : Deal) (side : ℕ) where
           pick_same zero h h' = h
           pick_same (suc n) h h' = h'
 
-      pub lawful_xs : Lawful xs
+      lawful_xs : Lawful xs
       lawful_xs = lawful_is (arena m k t d side) z xs wr b w.few_own w.some_own own st
 
       solved_xs : Solved (arena m k t d side) (plan_in xs)
@@ -138,7 +133,7 @@ module _ (m : Model) (k : Marks) (t : PhaseTable) (d : Deal) (side : ℕ) where
       solution_xs : Solution m k t d side xs
       solution_xs = record { bytes = wr.bytes; lawful = lawful_xs; sized = sized_xs; solved = solved_xs }
 
-      pub found : (bound : ℕ) → bound ≡ bound_of (parts_in xs) → ranks_in (arena m k t d side) z m.start 0 < 65535 → Found m k t d side old xs bound
+      found : (bound : ℕ) → bound ≡ bound_of (parts_in xs) → ranks_in (arena m k t d side) z m.start 0 < 65535 → Found m k t d side old xs bound
       found bound e h = record {
         head = head_none (length old) s size;
         solution = solution_xs;
@@ -149,3 +144,30 @@ module _ (m : Model) (k : Marks) (t : PhaseTable) (d : Deal) (side : ℕ) where
         where
           kept : Kept (plan_in xs) m.start 0
           kept = subst (λ (c : Plan). Kept c m.start 0) (sym (plan_is (arena m k t d side) z xs wr)) (starts (arena m k t d side) _ _ st h)
+
+-- what was settled, and maybe written, over a snapshot of the game
+module _ (m : Model) (k : Marks) (t : PhaseTable) (d : Deal) (side : ℕ) (w : LawfulMachine m) (sized : suits m t d side ≡ true) (z : Snapshot) (taken : Taken m k z) (r : Ranking)
+    (settled : Stable (snap_arena z t d side) (ranks_in (snap_arena z t d side) r) (choices_in (snap_arena z t d side) r)) where
+  over : (F : Arena → Type 0) → F (snap_arena z t d side) → F (arena m k t d side)
+  over F x = subst F (same_arena m k z t d side taken) x
+
+  b : Bounded (arena m k t d side)
+  b = over Bounded (snap_bounded z t d side)
+
+  st : Stable (arena m k t d side) (ranks_in (arena m k t d side) r) (choices_in (arena m k t d side) r)
+  st = over (λ a. Stable a (ranks_in a r) (choices_in a r)) settled
+
+  module _ (old : List ℕ) (size : length old ≡ record_size m.states t.phases) where
+    pub lawful_written : (xs : List ℕ) → Wrote (snap_arena z t d side) r xs → Lawful xs
+    lawful_written xs wr = lawful_xs m k t d side w (suits_from m t d side sized) r b st old xs size (over (λ a. Wrote a r xs) wr)
+
+    -- by the entry that was read at the start
+    module _ (n : ℕ) (e : Entry) (es : n ≡ z.start) (en : e ≡ get_or (vec_items r.entries) (8 * n + 0) absent) where
+      start_rank : ranks_in (arena m k t d side) r m.start 0 ≡ e.rank
+      start_rank = rank_read (arena m k t d side) b m.start 0 b.starts b.some_phase r e (en ∙ ap (λ i. get_or (vec_items r.entries) (8 * i + 0) absent) (es ∙ taken.start))
+
+      pub none_found : e.rank ≡ 65535 → Refused m k t d side old 23
+      none_found h = inr (head_none m k t d side (length old) (suits_from m t d side sized) size, refl, nothing_controls m k t d side w (suits_from m t d side sized) r b st (omega (arith, h, start_rank)))
+
+      pub written_found : (e.rank ≡ 65535 → ⊥) → (xs : List ℕ) → Wrote (snap_arena z t d side) r xs → (bound : ℕ) → bound ≡ bound_of (parts_in xs) → Found m k t d side old xs bound
+      written_found h xs wr bound q = found m k t d side w (suits_from m t d side sized) r b st old xs size (over (λ a. Wrote a r xs) wr) bound q (omega (arith, h, start_rank, (st.shaped m.start 0).capped))

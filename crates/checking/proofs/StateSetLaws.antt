@@ -1,8 +1,9 @@
 -- Laws of sets of states.
-use Rattle.std.proofs.Common.{◌≡◌, ℕ, zero, suc, ◌+◌, ◌-◌, ◌*◌, ◌/◌, ◌%◌, ◌^◌, ◌<◌, ◌≤◌, Bool, true, false, ◌&&◌, ◌||◌, eqb, sym, refl, ap, ◌∙◌, inl, inr, arith}
+use Rattle.std.proofs.Common.{◌≡◌, ℕ, zero, suc, ◌+◌, ◌-◌, ◌*◌, ◌/◌, ◌%◌, ◌^◌, ◌<◌, ◌≤◌, Bool, true, false, ◌&&◌, ◌||◌, eqb, sym, refl, ap, ◌∙◌, inl, inr, Decides, arith}
 use native.Mathlib.Nat.{two-pow-succ}
+use Rattle.std.proofs.Math.Bool.{or_comm}
 use lib.Bits.{bit_and, bit_or}
-use Rattle.std.proofs.lemmas.Bool.{eq-eqb, ne_eqb, lt-ltb, le-ltb, cases_lt, cases_eq, cond-true, cond-false, both_ways}
+use Rattle.std.proofs.lemmas.Bool.{eqb-true, and_parts, and_from, eq-eqb, ne_eqb, lt-ltb, le-ltb, cases_lt, cases_eq, cond-true, cond-false, both_ways}
 use Rattle.std.proofs.lemmas.Nat.{pow-add, pow_below, shl-shr, or_shr, or_mod, mod_below, one_shl}
 use Rattle.reading.specs.Bytes.{bit}
 use Rattle.reading.specs.Marks.{implies}
@@ -10,12 +11,6 @@ use Rattle.reading.proofs.Bits.{shift_none, bit_below, no_bit, bit_of_and}
 use Rattle.games.proofs.SetLaws.{top_bit, and_inside}
 use Rattle.checking.specs.declared.state_set.StateSet.{StateSet}
 use Rattle.checking.specs.StateSets.{member}
-
-or_swap : (x y : Bool) → (x || y) ≡ (y || x)
-or_swap true true = refl
-or_swap true false = refl
-or_swap false true = refl
-or_swap false false = refl
 
 -- one of two numbers has a bit exactly if their union has it
 pub bit_of_or : (x y i : ℕ) → bit (bit_or x y) i ≡ (bit x i || bit y i)
@@ -58,7 +53,7 @@ one_more : (x k j : ℕ) → k < 128 → bit (bit_or x ((1 * 2 ^ k) % 2 ^ 128)) 
 one_more x k j l =
     ap (λ n. bit (bit_or x n) j) (one_shl k 128 l)
     ∙ bit_of_or x (2 ^ k) j
-    ∙ or_swap (bit x j) (bit (2 ^ k) j)
+    ∙ or_comm (bit x j) (bit (2 ^ k) j)
     ∙ ap (λ b. b || bit x j) (bit_power k j)
 
 module _ (x : StateSet) (s : ℕ) where
@@ -138,3 +133,13 @@ module _ (x y : StateSet) where
         let q = le-ltb (i + 128) 128 (omega arith) in
         let back : i + 128 - 128 ≡ i = omega arith in
         sym (cond-false _ _ _ q ∙ ap (bit y.high) back) ∙ h (i + 128) (cond-false _ _ _ q ∙ ap (bit x.high) back ∙ e))
+
+-- sets are the same if their words are
+pub same_sets : (x y : StateSet) → Decides (eqb x.low y.low && eqb x.high y.high) (x ≡ y)
+same_sets x y = (
+  λ e. let w = and_parts _ _ e in join (eqb-true _ _ w.0) (eqb-true _ _ w.1),
+  λ e. and_from _ _ (eq-eqb _ _ (ap (λ z. z.low) e)) (eq-eqb _ _ (ap (λ z. z.high) e)),
+)
+  where
+    join : x.low ≡ y.low → x.high ≡ y.high → x ≡ y
+    join a b = λ i. record { low = a i; high = b i }

@@ -1,12 +1,13 @@
 -- What is written of a record on the way.
-use Rattle.std.proofs.Common.{◌≡◌, ℕ, ◌+◌, ◌*◌, ◌/◌, ◌%◌, ◌<◌, ◌≤◌, List, length, ◌∙◌, inl, inr, mul_comm, arith}
+use Rattle.std.proofs.Common.{◌≡◌, ℕ, ◌+◌, ◌*◌, ◌/◌, ◌%◌, ◌<◌, List, length, vec_items, sym, ap, subst, ◌∙◌, inl, inr, mul_comm, arith}
 use Rattle.std.proofs.lemmas.Bool.{cases_eq}
 use Rattle.std.proofs.lemmas.Nat.{mul-add-lt, div-mul-add, mod-mul-add}
 use Rattle.reading.specs.Bytes.{byte, pair}
 use Rattle.reading.specs.Limits.{AllBelow}
+use Rattle.checking.specs.declared.ranking.Entry.{Entry}
 use Rattle.checking.specs.declared.ranking.Ranking.{Ranking}
 use Rattle.checking.specs.Arenas.{Arena}
-use Rattle.checking.specs.Solving.{Bounded, ranks_in, choices_in, Entry, Wrote}
+use Rattle.checking.specs.Solving.{Bounded, held, Holds, Wrote}
 
 -- the head is written, and the entries of the places below k
 pub record Writing (a : Arena) (z : Ranking) (xs : List ℕ) (k : ℕ) : Type 0 where
@@ -14,33 +15,44 @@ pub record Writing (a : Arena) (z : Ranking) (xs : List ℕ) (k : ℕ) : Type 0 
   pub states : pair xs 0 ≡ a.states
   pub phases : byte xs 2 ≡ a.phases
   pub signals : byte xs 3 ≡ a.own
-  pub entries : (j : ℕ) → j < k → Entry xs (a.states * a.phases) j (choices_in a z (j / a.phases) (j % a.phases)) (ranks_in a z (j / a.phases) (j % a.phases))
+  pub entries : (s p : ℕ) → s < a.states → p < a.phases → s * a.phases + p < k → Holds xs (a.states * a.phases) (s * a.phases + p) (held a (vec_items z.entries) s p)
 
 module _ (a : Arena) (z : Ranking) where
-  pub writing_next : (xs ys : List ℕ) (k : ℕ) → Writing a z xs k → k < a.states * a.phases → ((i : ℕ) → i < 4 → byte ys i ≡ byte xs i)
-      → Entry ys (a.states * a.phases) k (choices_in a z (k / a.phases) (k % a.phases)) (ranks_in a z (k / a.phases) (k % a.phases))
-      → ((i x n : ℕ) → i < a.states * a.phases → (i ≡ k → ⊥) → Entry xs (a.states * a.phases) i x n → Entry ys (a.states * a.phases) i x n) → AllBelow 256 ys → Writing a z ys (k + 1)
-  writing_next xs ys k w l head here others bytes = record {
+  -- a position's place is below the size
+  pub place_low : (s p : ℕ) → s < a.states → p < a.phases → s * a.phases + p < a.states * a.phases
+  place_low s p hs hp = omega (arith, mul-add-lt s a.phases p a.states hs hp, mul_comm a.phases a.states)
+
+  pub writing_next : (xs ys : List ℕ) (s p : ℕ) → s < a.states → p < a.phases → Writing a z xs (s * a.phases + p) → ((i : ℕ) → i < 4 → byte ys i ≡ byte xs i)
+      → Holds ys (a.states * a.phases) (s * a.phases + p) (held a (vec_items z.entries) s p)
+      → ((i : ℕ) (e : Entry) → i < a.states * a.phases → (i ≡ s * a.phases + p → ⊥) → Holds xs (a.states * a.phases) i e → Holds ys (a.states * a.phases) i e) → AllBelow 256 ys
+      → Writing a z ys (s * a.phases + p + 1)
+  writing_next xs ys s p hs hp w head here others bytes = record {
     bytes = λ _. bytes;
     states = rw (head 0 (omega arith), head 1 (omega arith)) w.states;
     phases = head 2 (omega arith) ∙ w.phases;
     signals = head 3 (omega arith) ∙ w.signals;
-    entries = λ j h. elim (cases_eq j k) [
-      | inl e ↦ rw e here
-      | inr n ↦ others j _ _ (omega arith) n (w.entries j (omega (arith, n)))
+    entries = λ t q ht hq h. elim (cases_eq (t * a.phases + q) (s * a.phases + p)) [
+      | inl e ↦ (let f : t ≡ s = sym (div-mul-add t a.phases q hq) ∙ ap (λ i. i / a.phases) e ∙ div-mul-add s a.phases p hp in
+          let g : q ≡ p = sym (mod-mul-add t a.phases q hq) ∙ ap (λ i. i % a.phases) e ∙ mod-mul-add s a.phases p hp in
+          rw (f, g) here)
+      | inr n ↦ others (t * a.phases + q) _ (place_low t q ht hq) n (w.entries t q ht hq (omega (arith, n, h)))
     ];
   }
 
-  pub writing_done : Bounded a → (xs : List ℕ) (k : ℕ) → length xs ≡ 4 + 3 * (a.states * a.phases) → a.states * a.phases ≤ k → Writing a z xs k → Wrote a z xs
-  writing_done b xs k long end w = record {
-    bytes = w.bytes (omega (arith, inside 0 0 (omega (arith, b.starts)) b.some_phase));
+  -- the same, where size, place and entry go by other names
+  pub writing_at : (xs ys : List ℕ) (n k s p : ℕ) → n ≡ a.states * a.phases → k ≡ s * a.phases + p → (v : Entry) → v ≡ held a (vec_items z.entries) s p → s < a.states → p < a.phases → Writing a z xs (s * a.phases + p)
+      → ((i : ℕ) → i < 4 → byte ys i ≡ byte xs i) → Holds ys n k v → ((i : ℕ) (e : Entry) → i < n → (i ≡ k → ⊥) → Holds xs n i e → Holds ys n i e) → AllBelow 256 ys → Writing a z ys (s * a.phases + (p + 1))
+  writing_at xs ys n k s p en ek v ev hs hp w head here others bytes =
+      let q : s * a.phases + (p + 1) ≡ s * a.phases + p + 1 = omega arith in
+      rw q (writing_next xs ys s p hs hp w head (subst (Holds ys (a.states * a.phases) (s * a.phases + p)) ev (rw (en, ek) at here)) (rw (en, ek) at others) bytes)
+
+  pub writing_done : Bounded a → (xs : List ℕ) → length xs ≡ 4 + 3 * (a.states * a.phases) → Writing a z xs (a.states * a.phases) → Wrote a z xs
+  writing_done b xs long w = record {
+    bytes = w.bytes (omega (arith, place_low 0 0 (omega (arith, b.starts)) b.some_phase));
     long = long;
     states = w.states;
     phases = w.phases;
     signals = w.signals;
-    choice = λ s p hs hp. rw (div-mul-add s a.phases p hp, mod-mul-add s a.phases p hp) at (w.entries (s * a.phases + p) (inside s p hs hp)).choice;
-    rank = λ s p hs hp. rw (div-mul-add s a.phases p hp, mod-mul-add s a.phases p hp) at (w.entries (s * a.phases + p) (inside s p hs hp)).rank;
+    choice = λ s p hs hp. (w.entries s p hs hp (place_low s p hs hp)).choice;
+    rank = λ s p hs hp. (w.entries s p hs hp (place_low s p hs hp)).rank;
   }
-    where
-      inside : (s p : ℕ) → s < a.states → p < a.phases → s * a.phases + p < k
-      inside s p hs hp = omega (arith, mul-add-lt s a.phases p a.states hs hp, mul_comm a.phases a.states)

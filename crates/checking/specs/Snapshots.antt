@@ -5,7 +5,7 @@ use Rattle.games.specs.declared.deal.Deal.{Deal}
 use Rattle.games.specs.Machines.{Model, Marks, forbidden_in, goal_in}
 use Rattle.checking.specs.declared.state_set.StateSet.{StateSet}
 use Rattle.checking.specs.declared.snapshot.Snapshot.{Snapshot}
-use Rattle.checking.specs.declared.play.Play.{Play}
+use Rattle.checking.specs.declared.seat.Seat.{Seat}
 use Rattle.checking.specs.StateSets.{member, nothing}
 use Rattle.checking.specs.Arenas.{Arena, promised, relied, follow}
 
@@ -60,5 +60,5 @@ snap_arena z t d side = record {
   goal = snap_goal z;
 }
 
-abbrev pub played : Play → Arena
-played y = snap_arena y.snapshot.now y.table.now y.deal.now y.side
+abbrev pub played : Seat Snapshot → Arena
+played y = snap_arena y.game.now y.table.now y.deal.now y.side

@@ -1,7 +1,9 @@
 -- What a solver knows of its ranks on the way. A reader of the promises needs none of this: they speak of rivals alone (Solutions).
-use Rattle.std.specs.Prelude.{◌≡◌, ℕ, ◌+◌, ◌*◌, ◌<◌, ◌≤◌, Bool, true, false, cond, ◌⊎◌, List, length, vec_items, count_by, ◌≢◌, nat_eq, nat_lt, slice_index, slice_index_or}
+use Rattle.std.specs.Prelude.{◌≡◌, ℕ, ◌+◌, ◌*◌, ◌<◌, ◌≤◌, Bool, true, false, cond, ◌⊎◌, List, length, vec_items, count_by, ◌≢◌, nat_eq, nat_lt, slice_index_or}
 use Rattle.checking.specs.declared.state_set.StateSet.{StateSet}
+use Rattle.checking.specs.declared.ranking.Entry.{Entry}
 use Rattle.checking.specs.declared.ranking.Ranking.{Ranking}
+use Rattle.reading.specs.declared.records.Position.{Position}
 use Rattle.reading.specs.Bytes.{byte, pair}
 use Rattle.reading.specs.Limits.{AllBelow}
 use Rattle.checking.specs.StateSets.{member, nothing}
@@ -95,19 +97,28 @@ pub record Bounded (a : Arena) : Type 0 where
   pub relies : (p b : ℕ) → a.relied p b ≡ true → b < 4
   pub promises : (p x : ℕ) → a.promised p x ≡ true → x < 4
 
--- what a list holds of each position, eight places to a state, and otherwise none
-unfoldable pub held : Arena → ℕ → List ℕ → ℕ → ℕ → ℕ
-held a none l s p = cond (nat_lt s a.states) (cond (nat_lt p a.phases) (slice_index l (8 * s + p)) none) none
+-- no rank and no choice
+abbrev pub absent : Entry
+absent = record { rank = 65535; choice = 255 }
+
+-- what entries hold of each position, eight places to a state, and otherwise nothing
+unfoldable pub held : Arena → List Entry → ℕ → ℕ → Entry
+held a l s p = cond (nat_lt s a.states) (cond (nat_lt p a.phases) (slice_index_or l (8 * s + p) absent) absent) absent
 
 abbrev pub ranks_in : Arena → Ranking → ℕ → ℕ → ℕ
-ranks_in a z = held a 65535 (vec_items z.ranks)
+ranks_in a z s p = (held a (vec_items z.entries) s p).rank
 
 abbrev pub choices_in : Arena → Ranking → ℕ → ℕ → ℕ
-choices_in a z = held a 255 (vec_items z.choices)
+choices_in a z s p = (held a (vec_items z.entries) s p).choice
 
 -- how many ranks are 0
 abbrev pub zeros : Ranking → ℕ
-zeros z = count_by (λ x. nat_eq x 0) (vec_items z.ranks)
+zeros z = count_by (λ (e : Entry). nat_eq e.rank 0) (vec_items z.entries)
+
+-- a position of an arena
+pub record Inside (a : Arena) (at : Position) : Type 0 where
+  pub state : at.state < a.states
+  pub phase : at.phase < a.phases
 
 -- what holds of each position that a pass has come by: phase by phase, and in a phase state by state
 abbrev pub Before : Arena → ℕ → ℕ → (ℕ → ℕ → Type 0) → Type 0
@@ -122,6 +133,11 @@ pub record Written (a : Arena) (old new : Ranking) (s p n x : ℕ) : Type 0 wher
 -- the layers of a ranking
 abbrev pub Layers : Arena → Ranking → ℕ → ℕ → Type 0
 Layers a z top done = Layered a (ranks_in a z) (choices_in a z) top done
+
+-- the layers below d are there and complete, and the sets have what they rank
+pub record Attracted (a : Arena) (z : Ranking) (d : ℕ) : Type 0 where
+  pub layers : Layers a z d d
+  pub tracks : Tracks a z.ranked (ranks_in a z) d
 
 -- the pass of layer d, before state s of phase p: the sets in use have the ranks below d, the next sets those up to d
 pub record Layering (a : Arena) (z : Ranking) (next : List StateSet) (d p s : ℕ) : Type 0 where
@@ -192,7 +208,7 @@ pub record Wrote (a : Arena) (z : Ranking) (xs : List ℕ) : Type 0 where
   pub choice : (s p : ℕ) → s < a.states → p < a.phases → byte xs (4 + (s * a.phases + p)) ≡ choices_in a z s p
   pub rank : (s p : ℕ) → s < a.states → p < a.phases → pair xs (4 + a.states * a.phases + 2 * (s * a.phases + p)) ≡ ranks_in a z s p
 
--- the entries of the position at a place of a record of so many positions
-pub record Entry (xs : List ℕ) (size place x n : ℕ) : Type 0 where
-  pub choice : byte xs (4 + place) ≡ x
-  pub rank : pair xs (4 + size + 2 * place) ≡ n
+-- the entry at a place of a record of so many positions
+pub record Holds (xs : List ℕ) (size place : ℕ) (e : Entry) : Type 0 where
+  pub choice : byte xs (4 + place) ≡ e.choice
+  pub rank : pair xs (4 + size + 2 * place) ≡ e.rank

@@ -4,7 +4,6 @@
 
 pub mod check;
 pub mod faults;
-mod play;
 mod ranking;
 mod seat;
 mod snapshot;

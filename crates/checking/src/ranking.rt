@@ -6,14 +6,26 @@ mod write;
 ghost use Rattle.std.specs.Prelude.{◌≡◌, length, vec_len};
 
 use crate::state_set::StateSet;
+use reading::records::{NO_CHOICE, NO_RANK};
+
+/// What a ranking has for a position.
+#[derive(Clone, Copy, PartialEq, Eq, Debug)]
+pub(crate) struct Entry {
+    pub(crate) rank: u16,
+    pub(crate) choice: u8,
+}
+
+/// The entry of a position that is not ranked.
+const ABSENT: Entry = Entry {
+    rank: NO_RANK,
+    choice: NO_CHOICE,
+};
 
 /// Ranks and choices on the way to a solution, eight places to a state, and for each phase the set of ranked states.
 #[derive(Drop)]
 pub(crate) struct Ranking {
-    ranks: Vec<u16>,
-    choices: Vec<u8>,
+    entries: Vec<Entry>,
     ranked: [StateSet; 8],
-    ghost many_ranks: { vec_len ranks ≡ 2048 },
-    ghost many_choices: { vec_len choices ≡ 2048 },
+    ghost many: { vec_len entries ≡ 2048 },
     ghost eight: { length ranked ≡ 8 },
 }

@@ -1,12 +1,12 @@
 mod ask;
+mod leads;
 
 use games::deal::Deal;
-use games::machine::Machine;
 use reading::phase_table::PhaseTable;
 
-/// One side's place at a bay: its machine, under a phase table and a deal.
+/// One side's place at a bay: its game, under a phase table and a deal.
 #[derive_where(Clone, Copy)]
-pub(crate) struct Seat<'a, G: Machine> {
+pub(crate) struct Seat<'a, G> {
     pub(crate) game: &'a G,
     pub(crate) table: &'a PhaseTable,
     pub(crate) deal: &'a Deal,

@@ -2,14 +2,13 @@ ghost use Rattle.std.specs.Prelude.{◌≡◌, IfOk, vec_len};
 ghost use Rattle.checking.specs.Solutions.{Solves};
 
 use crate::faults::SolveFault;
-use crate::play::Play;
 use crate::ranking::Ranking;
 use crate::seat::Seat;
 use crate::snapshot::Snapshot;
 use games::deal::Deal;
 use games::machine::{Game, Machine};
 use reading::phase_table::PhaseTable;
-use reading::records::Record;
+use reading::records::{NO_RANK, Position, Record};
 use std::alloc::{AllocError, Global};
 
 /// Room for a solver, made once for games of any size; solving itself takes no memory.
@@ -22,7 +21,7 @@ pub struct Workspace {
 impl Workspace {
     /// Room for the largest game: 256 states with 16 pairs of signals, 2,048 positions.
     pub fn new(heap: Global) -> Result<Workspace, AllocError>
-        ensures { IfOk result (λ w. (vec_len w.snapshot.rows ≡ 4096) × (vec_len w.ranking.ranks ≡ 2048) × (vec_len w.ranking.choices ≡ 2048)) }
+        ensures { IfOk result (λ w. (vec_len w.snapshot.rows ≡ 4096) × (vec_len w.ranking.entries ≡ 2048)) }
     {
         Ok(Workspace {
             snapshot: Snapshot::new(heap)?,
@@ -51,23 +50,25 @@ pub fn solve<'a, G: Game>(
     if !seat.suits() {
         return Err(SolveFault::Sizes);
     }
-    if buffer.len() != 4 + 3 * (game.states() as usize * table.phases() as usize) {
+    if buffer.len() != 4 + 3 * (usize::from(game.states()) * usize::from(table.phases())) {
         return Err(SolveFault::Buffer);
     }
     workspace.snapshot.take(game);
-    let play = Play {
-        snapshot: &workspace.snapshot,
+    let played = Seat {
+        game: &workspace.snapshot,
         table,
         deal,
         side,
     };
-    workspace.ranking.settle(&play);
-    if workspace.ranking.rank(play.snapshot.start(), 0) == 65535 {
+    workspace.ranking.settle(&played);
+    let start = Position {
+        state: workspace.snapshot.start(),
+        phase: 0,
+    };
+    if workspace.ranking.entry(start).rank == NO_RANK {
         return Err(SolveFault::NoController);
     }
-    workspace.ranking.write(&play, buffer);
-    match Record::read(buffer) {
-        Ok(solved) => Ok(solved.bound()),
-        Err(_) => unreachable(),
-    }
+    workspace.ranking.write(&played, buffer);
+    // what was written can be read
+    Ok(Record::read(buffer).unwrap().bound())
 }

@@ -1,69 +1,61 @@
 ghost use Rattle.std.specs.Prelude.{◌≡◌, ℕ, ◌+◌, ◌<◌, false, MatchOption};
 ghost use Rattle.checking.specs.Snapshots.{played};
-ghost use Rattle.checking.specs.Solving.{ranks_in, zeros, Tracks, Layers, Joining, Barred};
+ghost use Rattle.checking.specs.Solving.{zeros, Attracted, Layers, Inside, Joining, Barred};
 
-use crate::play::Play;
-use crate::ranking::Ranking;
-
-/// Stands for no rank.
-const NO_RANK: u16 = 65535;
+use crate::ranking::{Entry, Ranking};
+use crate::seat::Seat;
+use crate::snapshot::Snapshot;
+use reading::records::{NO_RANK, Position};
 
 impl Ranking {
     /// The signal by which a position joins the next layer: it has no rank, is no goal and not forbidden, and is led into the ranked sets.
-    fn joining(&self, play: &Play<'_>, state: u16, phase: u8) -> Option<u8>
-        requires state { state < play.now.snapshot.now.states }
-        requires phase { phase < play.now.table.now.phases }
-        ensures { MatchOption result (Barred (played play.now) self.now state phase) (Joining (played play.now) self.now state phase) }
+    fn joining(&self, seat: &Seat<'_, Snapshot>, at: Position) -> Option<u8>
+        requires { Inside (played seat.now) at }
+        ensures { MatchOption result (Barred (played seat.now) self.now at.state at.phase) (Joining (played seat.now) self.now at.state at.phase) }
     {
-        if self.rank(state, phase) != NO_RANK {
+        if self.entry(at).rank != NO_RANK
+            || seat.game.is_goal(at.state)
+            || seat.game.forbids(at.state)
+        {
             return None;
         }
-        if play.snapshot.is_goal(state) {
-            return None;
-        }
-        if play.snapshot.forbids(state) {
-            return None;
-        }
-        play.first(&self.ranked, state, phase)
+        seat.first(&self.ranked, at)
     }
 
     /// Adds a layer: the positions led into the ranks below its depth. Whether there are any.
-    fn add_layer(&mut self, play: &Play<'_>, depth: u16) -> bool
+    fn add_layer(&mut self, seat: &Seat<'_, Snapshot>, depth: u16) -> bool
         requires some { 0 < depth }
         requires few { depth < 65535 }
-        requires layers { Layers (played play.now) self.old depth depth }
-        requires tracks { Tracks (played play.now) self.old.ranked (ranks_in (played play.now) self.old) depth }
-        ensures layers { Layers (played play.now) self.new (depth + 1) (depth + 1) }
-        ensures tracks { Tracks (played play.now) self.new.ranked (ranks_in (played play.now) self.new) (depth + 1) }
-        ensures stops { result ≡ false → Layers (played play.now) self.new depth (depth + 1) }
+        requires before { Attracted (played seat.now) self.old depth }
+        ensures after { Attracted (played seat.now) self.new (depth + 1) }
+        ensures stops { result ≡ false → Layers (played seat.now) self.new depth (depth + 1) }
         ensures zeros { zeros self.new ≡ zeros self.old }
     {
         // what joins this layer leads to no position of this layer
         let mut next = self.ranked;
-        let mut added = false;
-        for phase in 0..play.table.phases() {
-            for state in 0..play.snapshot.states() {
-                if let Some(own) = self.joining(play, state, phase) {
-                    self.give(state, phase, depth, own);
-                    next[phase as usize].insert(state);
-                    added = true;
+        for phase in 0..seat.table.phases() {
+            for state in 0..seat.game.states() {
+                let at = Position { state, phase };
+                if let Some(choice) = self.joining(seat, at) {
+                    let rank = depth;
+                    self.give(at, Entry { rank, choice });
+                    next[usize::from(phase)].insert(state);
                 }
             }
         }
+        let grown = next != self.ranked;
         self.ranked = next;
-        added
+        grown
     }
 
     /// Ranks every position from which the side comes to a target.
-    pub(crate) fn attract(&mut self, play: &Play<'_>)
-        requires layers { Layers (played play.now) self.old 1 1 }
-        requires tracks { Tracks (played play.now) self.old.ranked (ranks_in (played play.now) self.old) 1 }
-        ensures layers { Layers (played play.now) self.new 65535 65535 }
-        ensures tracks { Tracks (played play.now) self.new.ranked (ranks_in (played play.now) self.new) 65535 }
+    pub(crate) fn attract(&mut self, seat: &Seat<'_, Snapshot>)
+        requires { Attracted (played seat.now) self.old 1 }
+        ensures after { Attracted (played seat.now) self.new 65535 }
         ensures zeros { zeros self.new ≡ zeros self.old }
     {
         for depth in 1..NO_RANK {
-            if !self.add_layer(play, depth) {
+            if !self.add_layer(seat, depth) {
                 return;
             }
         }

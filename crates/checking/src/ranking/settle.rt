@@ -1,92 +1,79 @@
 ghost use Rattle.std.specs.Prelude.{◌≡◌, ◌<◌, ◌≤◌, true, false, Decides};
 ghost use Rattle.checking.specs.Snapshots.{played};
-ghost use Rattle.checking.specs.Solving.{ranks_in, choices_in, zeros, Tracks, Layers, Least, Stable, Target, Renewed};
+ghost use Rattle.checking.specs.Solving.{ranks_in, choices_in, zeros, Attracted, Inside, Least, Stable, Target, Renewed};
 
-use crate::play::Play;
-use crate::ranking::Ranking;
+use crate::ranking::{ABSENT, Entry, Ranking};
+use crate::seat::Seat;
+use crate::snapshot::Snapshot;
 use crate::state_set::StateSet;
-
-/// What stands for no rank, and for no choice.
-const NO_RANK: u16 = 65535;
-
-const NO_CHOICE: u8 = 255;
+use reading::records::Position;
 
 impl Ranking {
     /// Ranks every position 0.
-    fn begin(&mut self, play: &Play<'_>)
-        ensures { Least (played play.now) (ranks_in (played play.now) self.new) }
+    fn begin(&mut self, seat: &Seat<'_, Snapshot>)
+        ensures { Least (played seat.now) (ranks_in (played seat.now) self.new) }
     {
-        for i in 0..8 * play.snapshot.states() {
-            self.ranks[i as usize] = 0;
-        }
+        self.entries.fill(Entry { rank: 0, ..ABSENT });
     }
 
     /// Whether a position is a goal that is neither forbidden nor given up.
-    fn is_target(&self, play: &Play<'_>, state: u16, phase: u8) -> bool
-        requires state { state < play.now.snapshot.now.states }
-        requires phase { phase < play.now.table.now.phases }
-        ensures { Decides result (Target (played play.now) self.now state phase) }
+    fn is_target(&self, seat: &Seat<'_, Snapshot>, at: Position) -> bool
+        requires { Inside (played seat.now) at }
+        ensures { Decides result (Target (played seat.now) self.now at.state at.phase) }
     {
-        if self.rank(state, phase) != 0 {
-            return false;
-        }
-        if !play.snapshot.is_goal(state) {
-            return false;
-        }
-        !play.snapshot.forbids(state)
+        self.entry(at).rank == 0 && seat.game.is_goal(at.state) && !seat.game.forbids(at.state)
     }
 
     /// Keeps the targets alone.
-    fn reset(&mut self, play: &Play<'_>)
-        requires { Least (played play.now) (ranks_in (played play.now) self.old) }
-        ensures layers { Layers (played play.now) self.new 1 1 }
-        ensures tracks { Tracks (played play.now) self.new.ranked (ranks_in (played play.now) self.new) 1 }
+    fn reset(&mut self, seat: &Seat<'_, Snapshot>)
+        requires { Least (played seat.now) (ranks_in (played seat.now) self.old) }
+        ensures after { Attracted (played seat.now) self.new 1 }
         ensures zeros { zeros self.new ≤ zeros self.old }
     {
-        for phase in 0..play.table.phases() {
+        for phase in 0..seat.table.phases() {
             let mut set = StateSet::empty();
-            for state in 0..play.snapshot.states() {
-                if self.is_target(play, state, phase) {
+            for state in 0..seat.game.states() {
+                let at = Position { state, phase };
+                if self.is_target(seat, at) {
                     set.insert(state);
                 } else {
-                    self.give(state, phase, NO_RANK, NO_CHOICE);
+                    self.give(at, ABSENT);
                 }
             }
-            self.ranked[phase as usize] = set;
+            self.ranked[usize::from(phase)] = set;
         }
     }
 
     /// Chooses for a target, or gives it up if it leads nowhere. Whether it was given up.
-    fn renew(&mut self, play: &Play<'_>, state: u16, phase: u8) -> bool
-        requires state { state < play.now.snapshot.now.states }
-        requires phase { phase < play.now.table.now.phases }
-        ensures { Renewed (played play.now) self.old self.new state phase result }
+    fn renew(&mut self, seat: &Seat<'_, Snapshot>, at: Position) -> bool
+        requires { Inside (played seat.now) at }
+        ensures { Renewed (played seat.now) self.old self.new at.state at.phase result }
     {
-        match play.first(&self.ranked, state, phase) {
-            Some(own) => {
-                self.give(state, phase, 0, own);
+        match seat.first(&self.ranked, at) {
+            Some(choice) => {
+                self.give(at, Entry { rank: 0, choice });
                 false
             }
             None => {
-                self.give(state, phase, NO_RANK, NO_CHOICE);
+                self.give(at, ABSENT);
                 true
             }
         }
     }
 
     /// Gives up the targets that lead nowhere, and chooses for the others. Whether any was given up.
-    fn prune(&mut self, play: &Play<'_>) -> bool
-        requires layers { Layers (played play.now) self.old 65535 65535 }
-        requires tracks { Tracks (played play.now) self.old.ranked (ranks_in (played play.now) self.old) 65535 }
-        ensures least { Least (played play.now) (ranks_in (played play.now) self.new) }
+    fn prune(&mut self, seat: &Seat<'_, Snapshot>) -> bool
+        requires { Attracted (played seat.now) self.old 65535 }
+        ensures least { Least (played seat.now) (ranks_in (played seat.now) self.new) }
         ensures fewer { result ≡ true → zeros self.new < zeros self.old }
-        ensures stable { result ≡ false → Stable (played play.now) (ranks_in (played play.now) self.new) (choices_in (played play.now) self.new) }
+        ensures stable { result ≡ false → Stable (played seat.now) (ranks_in (played seat.now) self.new) (choices_in (played seat.now) self.new) }
     {
         let mut pruned = false;
-        for phase in 0..play.table.phases() {
-            for state in 0..play.snapshot.states() {
-                if self.rank(state, phase) == 0 && self.renew(play, state, phase) {
-                    pruned = true;
+        for phase in 0..seat.table.phases() {
+            for state in 0..seat.game.states() {
+                let at = Position { state, phase };
+                if self.entry(at).rank == 0 {
+                    pruned |= self.renew(seat, at);
                 }
             }
         }
@@ -94,14 +81,14 @@ impl Ranking {
     }
 
     /// Comes to the least ranks that any rival has, with the lowest choices.
-    pub(crate) fn settle(&mut self, play: &Play<'_>)
-        ensures { Stable (played play.now) (ranks_in (played play.now) self.new) (choices_in (played play.now) self.new) }
+    pub(crate) fn settle(&mut self, seat: &Seat<'_, Snapshot>)
+        ensures { Stable (played seat.now) (ranks_in (played seat.now) self.new) (choices_in (played seat.now) self.new) }
     {
-        self.begin(play);
+        self.begin(seat);
         loop {
-            self.reset(play);
-            self.attract(play);
-            if !self.prune(play) {
+            self.reset(seat);
+            self.attract(seat);
+            if !self.prune(seat) {
                 return;
             }
         }

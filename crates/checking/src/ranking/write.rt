@@ -1,10 +1,13 @@
 ghost use Rattle.std.specs.Prelude.{◌≡◌, ℕ, ◌+◌, ◌*◌, ◌<◌, ◌≤◌, length, ◌≢◌};
 ghost use Rattle.reading.specs.Bytes.{byte, pair};
+ghost use Rattle.checking.specs.declared.ranking.Entry.{Entry};
 ghost use Rattle.checking.specs.Snapshots.{played};
-ghost use Rattle.checking.specs.Solving.{Entry, Wrote};
+ghost use Rattle.checking.specs.Solving.{Holds, Wrote};
 
-use crate::play::Play;
-use crate::ranking::Ranking;
+use crate::ranking::{Entry, Ranking};
+use crate::seat::Seat;
+use crate::snapshot::Snapshot;
+use reading::records::Position;
 
 /// Two bytes of a number, the low byte first.
 fn put_pair(buffer: &mut [u8], place: usize, number: u16)
@@ -12,39 +15,41 @@ fn put_pair(buffer: &mut [u8], place: usize, number: u16)
     ensures value { pair buffer.new place ≡ number }
     ensures rest { (i : ℕ) → (i ≢ place) → (i ≢ place + 1) → byte buffer.new i ≡ byte buffer.old i }
 {
-    buffer[place] = (number % 256) as u8;
-    buffer[place + 1] = (number / 256) as u8;
+    let [low, high] = number.to_le_bytes();
+    buffer[place] = low;
+    buffer[place + 1] = high;
 }
 
-/// The entries of one position, in a record of so many.
-fn put_entry(buffer: &mut [u8], size: usize, place: usize, choice: u8, rank: u16)
+/// The entry of one position, in a record of so many.
+fn put_entry(buffer: &mut [u8], size: usize, place: usize, entry: Entry)
     requires place { place < size }
     requires long { length buffer.old ≡ 4 + 3 * size }
-    ensures entry { Entry buffer.new size place choice rank }
+    ensures entry { Holds buffer.new size place entry }
     ensures head { (i : ℕ) → i < 4 → byte buffer.new i ≡ byte buffer.old i }
-    ensures others { (i x n : ℕ) → i < size → (i ≢ place) → Entry buffer.old size i x n → Entry buffer.new size i x n }
+    ensures others { (i : ℕ) (e : Entry) → i < size → (i ≢ place) → Holds buffer.old size i e → Holds buffer.new size i e }
 {
-    buffer[4 + place] = choice;
-    put_pair(buffer, 4 + size + 2 * place, rank);
+    buffer[4 + place] = entry.choice;
+    put_pair(buffer, 4 + size + 2 * place, entry.rank);
 }
 
 impl Ranking {
     /// Writes the record that holds the ranks and choices.
-    pub(crate) fn write(&self, play: &Play<'_>, buffer: &mut [u8])
-        requires { length buffer.old ≡ 4 + 3 * (play.now.snapshot.now.states * play.now.table.now.phases) }
-        ensures { Wrote (played play.now) self.now buffer.new }
+    pub(crate) fn write(&self, seat: &Seat<'_, Snapshot>, buffer: &mut [u8])
+        requires { length buffer.old ≡ 4 + 3 * (seat.now.game.now.states * seat.now.table.now.phases) }
+        ensures { Wrote (played seat.now) self.now buffer.new }
     {
-        let phases = play.table.phases();
-        let size = play.snapshot.states() as usize * phases as usize;
-        put_pair(buffer, 0, play.snapshot.states());
+        let states = seat.game.states();
+        let phases = seat.table.phases();
+        let size = usize::from(states) * usize::from(phases);
+        put_pair(buffer, 0, states);
         buffer[2] = phases;
-        buffer[3] = play.snapshot.own();
-        for place in 0..size {
-            let state = (place / phases as usize) as u16;
-            let phase = (place % phases as usize) as u8;
-            let choice = self.choice(state, phase);
-            let rank = self.rank(state, phase);
-            put_entry(buffer, size, place, choice, rank);
+        buffer[3] = seat.game.own();
+        for state in 0..states {
+            for phase in 0..phases {
+                let place = usize::from(state) * usize::from(phases) + usize::from(phase);
+                let entry = self.entry(Position { state, phase });
+                put_entry(buffer, size, place, entry);
+            }
         }
     }
 }

@@ -5,25 +5,7 @@ ghost use Rattle.checking.specs.Arenas.{promised, relied, follow, suits};
 use crate::seat::Seat;
 use games::machine::Machine;
 
-impl<G: Machine> Seat<'_, G> {
-    /// Whether there is such a side, and machine, table and deal are of the same sizes.
-    pub(crate) fn suits(&self) -> bool
-        ensures { result ≡ suits (G.Machine.meaning self.now.game.now) self.now.table.now self.now.deal.now self.now.side }
-    {
-        let (signals0, signals1) = (self.table.signals0(), self.table.signals1());
-        let (own, partner) = if self.side == 0 {
-            (signals0, signals1)
-        } else {
-            (signals1, signals0)
-        };
-        self.side <= 1
-            && self.table.phases() == self.deal.phases()
-            && signals0 == self.deal.signals0()
-            && signals1 == self.deal.signals1()
-            && self.game.own() == own
-            && self.game.partner() == partner
-    }
-
+impl<G> Seat<'_, G> {
     /// Whether the side promises a signal of its own in a phase.
     pub(crate) fn promised(&self, phase: u8, signal: u8) -> bool
         ensures { result ≡ promised self.now.deal.now self.now.side phase signal }
@@ -48,16 +30,31 @@ impl<G: Machine> Seat<'_, G> {
             self.table.next(phase, partner, own)
         }
     }
+}
+
+impl<G: Machine> Seat<'_, G> {
+    /// Whether there is such a side, and machine, table and deal are of the same sizes.
+    pub(crate) fn suits(&self) -> bool
+        ensures { result ≡ suits (G.Machine.meaning self.now.game.now) self.now.table.now self.now.deal.now self.now.side }
+    {
+        let (signals0, signals1) = (self.table.signals0(), self.table.signals1());
+        let (own, partner) = if self.side == 0 {
+            (signals0, signals1)
+        } else {
+            (signals1, signals0)
+        };
+        self.side <= 1
+            && self.table.phases() == self.deal.phases()
+            && signals0 == self.deal.signals0()
+            && signals1 == self.deal.signals1()
+            && self.game.own() == own
+            && self.game.partner() == partner
+    }
 
     /// Whether there is a next state under two signals.
     pub(crate) fn has_next(&self, state: u16, own: u8, partner: u8) -> bool
         ensures { result ≡ some_below (G.Machine.meaning self.now.game.now).states ((G.Machine.meaning self.now.game.now).move state own partner) }
     {
-        for next in 0..self.game.states() {
-            if self.game.may_move(state, own, partner, next) {
-                return true;
-            }
-        }
-        false
+        (0..self.game.states()).any(|next| self.game.may_move(state, own, partner, next))
     }
 }

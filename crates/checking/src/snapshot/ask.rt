@@ -1,7 +1,8 @@
-ghost use Rattle.std.specs.Prelude.{◌≡◌, ◌<◌};
-ghost use Rattle.checking.specs.Snapshots.{row_of, snap_forbidden, snap_goal};
+ghost use Rattle.std.specs.Prelude.{◌≡◌, ℕ};
+ghost use Rattle.checking.specs.StateSets.{member};
+ghost use Rattle.checking.specs.Snapshots.{snap_move, snap_forbidden, snap_goal};
 
-use crate::snapshot::Snapshot;
+use crate::snapshot::{SIGNALS, Snapshot, place};
 use crate::state_set::StateSet;
 
 impl Snapshot {
@@ -28,27 +29,26 @@ impl Snapshot {
 
     /// The set of next states under two signals.
     pub(crate) fn row(&self, state: u16, own: u8, partner: u8) -> StateSet
-        requires state { state < self.now.states }
-        requires own { own < 4 }
-        requires partner { partner < 4 }
-        ensures { result ≡ row_of self.now.rows.items state own partner }
+        ensures { (t : ℕ) → member result t ≡ snap_move self.now state own partner t }
     {
-        self.rows[16 * state as usize + 4 * own as usize + partner as usize]
+        if state < self.states && own < SIGNALS && partner < SIGNALS {
+            self.rows[place(state, own, partner)]
+        } else {
+            StateSet::empty()
+        }
     }
 
     /// Whether a state is forbidden.
     pub(crate) fn forbids(&self, state: u16) -> bool
-        requires { state < self.now.states }
         ensures { result ≡ snap_forbidden self.now state }
     {
-        self.forbidden.contains(state)
+        state >= self.states || self.forbidden.contains(state)
     }
 
     /// Whether a state is a goal.
     pub(crate) fn is_goal(&self, state: u16) -> bool
-        requires { state < self.now.states }
         ensures { result ≡ snap_goal self.now state }
     {
-        self.goals.contains(state)
+        state < self.states && self.goals.contains(state)
     }
 }

@@ -1,9 +1,8 @@
 ghost use Rattle.std.specs.Prelude.{◌≡◌, ℕ, ◌<◌, vec_len};
-ghost use Rattle.games.specs.Machines.{forbidden_in, goal_in};
 ghost use Rattle.checking.specs.StateSets.{member};
 ghost use Rattle.checking.specs.Snapshots.{row_of, Taken};
 
-use crate::snapshot::Snapshot;
+use crate::snapshot::{SIGNALS, Snapshot, place};
 use crate::state_set::StateSet;
 use games::machine::{Game, Machine};
 use std::alloc::{AllocError, Global};
@@ -12,50 +11,24 @@ use std::alloc::{AllocError, Global};
 fn next_states<G: Machine>(game: &G, state: u16, own: u8, partner: u8) -> StateSet
     ensures { (t : ℕ) → member result t ≡ (G.Machine.meaning game.now).move state own partner t }
 {
-    let mut set = StateSet::empty();
-    for next in 0..game.states() {
-        if game.may_move(state, own, partner, next) {
-            set.insert(next);
-        }
-    }
-    set
+    StateSet::of(
+        game.states(),
+        |next| game.may_move(state, own, partner, next),
+    )
 }
 
-/// The set of forbidden states.
-fn forbidden_states<G: Game>(game: &G) -> StateSet
-    ensures { (t : ℕ) → t < (G.Machine.meaning game.now).states → member result t ≡ forbidden_in (G.Machine.meaning game.now) (G.Game.marks game.now) t }
-{
-    let mut set = StateSet::empty();
-    for state in 0..game.states() {
-        if game.forbidden(state) {
-            set.insert(state);
-        }
-    }
-    set
-}
-
-/// The set of goals.
-fn goal_states<G: Game>(game: &G) -> StateSet
-    ensures { (t : ℕ) → t < (G.Machine.meaning game.now).states → member result t ≡ goal_in (G.Machine.meaning game.now) (G.Game.marks game.now) t }
-{
-    let mut set = StateSet::empty();
-    for state in 0..game.states() {
-        if game.goal(state) {
-            set.insert(state);
-        }
-    }
-    set
-}
-
-/// Fills the rows of a game's states: sixteen rows a state, four for each own signal.
+/// Fills the rows of a game's states.
 fn fill_rows<G: Machine>(game: &G, rows: &mut Vec<StateSet>)
     requires { vec_len rows.old ≡ 4096 }
     ensures rows { (s x b t : ℕ) → s < (G.Machine.meaning game.now).states → x < 4 → b < 4 → member (row_of rows.new.items s x b) t ≡ (G.Machine.meaning game.now).move s x b t }
     ensures long { vec_len rows.new ≡ 4096 }
 {
-    for i in 0..16 * game.states() {
-        let signals = i % 16;
-        rows[i as usize] = next_states(game, i / 16, (signals / 4) as u8, (signals % 4) as u8);
+    for state in 0..game.states() {
+        for own in 0..SIGNALS {
+            for partner in 0..SIGNALS {
+                rows[place(state, own, partner)] = next_states(game, state, own, partner);
+            }
+        }
     }
 }
 
@@ -78,8 +51,8 @@ impl Snapshot {
         ensures { Taken (G.Machine.meaning game.now) (G.Game.marks game.now) self.new }
     {
         fill_rows(game, &mut self.rows);
-        self.forbidden = forbidden_states(game);
-        self.goals = goal_states(game);
+        self.forbidden = StateSet::of(game.states(), |state| game.forbidden(state));
+        self.goals = StateSet::of(game.states(), |state| game.goal(state));
         self.states = game.states();
         self.start = game.start();
         self.own = game.own();

@@ -14,6 +14,22 @@ impl StateSet {
         StateSet { low: 0, high: 0 }
     }
 
+    /// The states below a bound that pass a test.
+    pub(crate) fn of<F: Fn(u16) -> bool>(states: u16, test: F) -> StateSet
+        requires few { states ≤ 256 }
+        requires callable { F.IsAlwaysCallable test }
+        ensures below { (t : ℕ) → t < states → F.post test t (member result t) }
+        ensures above { (t : ℕ) → states ≤ t → member result t ≡ false }
+    {
+        let mut set = StateSet::empty();
+        for state in 0..states {
+            if test(state) {
+                set.insert(state);
+            }
+        }
+        set
+    }
+
     /// Whether a state is in the set.
     pub(crate) fn contains(&self, state: u16) -> bool
         requires { state < 256 }

@@ -1,21 +1,17 @@
-use Rattle.std.proofs.Common.{◌<◌, ◌≤◌, refl, ◌∙◌, arith}
-use Rattle.std.proofs.lemmas.Bool.{true≢false}
+use Rattle.std.proofs.Common.{◌<◌, ◌∙◌, sym, arith}
+use Rattle.std.specs.Cmp.Lexicographic.{pointwise_decides}
+use Rattle.std.proofs.lemmas.Bool.{not-false}
+use Rattle.checking.proofs.StateSetLaws.{same_sets}
 use Rattle.checking.specs.Snapshots.{played}
 use Rattle.checking.proofs.PlayLaws.{bounded}
 use Rattle.checking.proofs.PlaceLaws.{written, zeros_same}
-use Rattle.checking.proofs.PassLaws.{layering_start, layering_keep, layering_turn, layering_add, layering_done, layering_quiet}
+use Rattle.checking.proofs.PassLaws.{layering_keep, layering_add, layering_done, layering_quiet}
 use Rattle.checking.proofs.ranking.Ranking.add_layer.Goals as goal
 use Rattle.checking.proofs.ranking.Ranking.add_layer.Goals.{in-Some, in_default}
 
-pub loop-phase-init : goal.loop-phase-init
-loop-phase-init c = (layering_start _ _ _ c.requires.few c.requires.layers c.requires.tracks, λ _. refl, refl)
-
-pub loop-state-init : goal.loop-state-init
-loop-state-init c = (c.loop-phase.invariant.0, λ e. (e, refl), refl)
-
 pub loop-state-preserved : goal.loop-state-preserved
 loop-state-preserved c =
-    let y = c.args.play.now in
+    let y = c.args.seat.now in
     let b = bounded y in
     let i = c.loop-state.invariant in
     let hs : c.loop-state.state < (played y).states = omega (arith, c.states-state-end.ensures, c.loop-state-test.true) in
@@ -23,29 +19,20 @@ loop-state-preserved c =
     elim c.match-joining.branch [
       | in-Some w ↦ (let j = w.in-Some.ensures in
           let e = w.give.ensures in
-          let v = written (played y) b _ _ hs hp c.loop-state.self w.give.new.self _ _ e.ranks e.choices in
-          rw (w.self-is, w.next-is, w.added-is) (
-            layering_add (played y) b _ _ _ _ _ i.0 _ _ _ j v e.sets c.requires.some c.requires.few w.insert.ensures,
-            λ h. absurd (true≢false h),
-            zeros_same (played y) b _ _ hs hp c.loop-state.self w.give.new.self c.args.depth e.ranks c.requires.some (omega (arith, j.fresh)) ∙ i.2,
+          let v = written (played y) b _ _ hs hp c.loop-state.self w.give.new.self _ e.entries in
+          rw (w.self-is, w.next-is, w.from.ensures) (
+            layering_add (played y) b _ _ _ _ _ i.0 _ _ _ j v e.sets c.requires.some c.requires.few (rw w.from.ensures at w.insert.ensures),
+            zeros_same (played y) b _ _ hs hp c.loop-state.self w.give.new.self _ e.entries c.requires.some (omega (arith, j.fresh)) ∙ i.1,
           ))
-      | in_default w ↦ rw (w.self-is, w.next-is, w.added-is) (layering_keep (played y) b _ _ _ _ _ i.0 w.in_default.ensures, i.1, i.2)
+      | in_default w ↦ rw (w.self-is, w.next-is) (layering_keep (played y) b _ _ _ _ _ i.0 w.in_default.ensures, i.1)
     ]
 
-pub loop-phase-preserved : goal.loop-phase-preserved
-loop-phase-preserved c = let i = c.loop-state.invariant in (
-  layering_turn _ (bounded c.args.play.now) _ _ _ _ c.loop-state.state i.0 (omega (arith, c.states-state-end.ensures, c.loop-state-test.false)),
-  λ e. (let h = i.1 e in h.1 ∙ c.loop-phase.invariant.1 h.0),
-  i.2 ∙ c.loop-phase.invariant.2,
-)
+pub returns-clause-after : goal.returns-clause-after
+returns-clause-after c = record {
+  layers = layering_done (played c.args.seat.now) c.loop-phase.self _ _ c.loop-phase.phase (omega (arith, c.phases-phase-end.ensures, c.loop-phase-test.false)) c.loop-phase.invariant.0;
+  tracks = c.loop-phase.invariant.0.coming;
+}
 
-pub returns : goal.returns
-returns c =
-    let i = c.loop-phase.invariant in
-    let end : (played c.args.play.now).phases ≤ c.loop-phase.phase = omega (arith, c.phases-phase-end.ensures, c.loop-phase-test.false) in
-    record {
-      layers = layering_done (played c.args.play.now) c.loop-phase.self _ _ c.loop-phase.phase end i.0;
-      tracks = i.0.coming;
-      stops = λ e. layering_quiet (played c.args.play.now) c.loop-phase.self _ _ c.loop-phase.phase end i.0 c.args.self.now c.requires.layers (i.1 e);
-      zeros = i.2;
-    }
+pub returns-clause-stops : goal.returns-clause-stops
+returns-clause-stops c = λ e. layering_quiet (played c.args.seat.now) c.loop-phase.self _ _ c.loop-phase.phase (omega (arith, c.phases-phase-end.ensures, c.loop-phase-test.false)) c.loop-phase.invariant.0
+    ((pointwise_decides same_sets c.loop-phase.next c.loop-phase.self.ranked).0 (not-false _ (sym c.ne-grown.ensures ∙ e)))

@@ -1,16 +1,10 @@
-use Rattle.std.proofs.Common.{◌≡◌, false, vec_items}
+use Rattle.std.proofs.Common.{◌≡◌}
 use Rattle.checking.specs.Snapshots.{played}
 use Rattle.checking.specs.Solving.{zeros, Layering}
 use Rattle.checking.proofs.ranking.Ranking.add_layer.Given as goal
 
 abbrev pub invariant-loop-state : goal.invariant-loop-state
-invariant-loop-state l =
-    Layering (played l.play) l.self l.next l.depth l.phase l.state
-    × (l.added ≡ false → (l.initial.added ≡ false) × (vec_items l.self.ranks ≡ vec_items l.initial.self.ranks))
-    × (zeros l.self ≡ zeros l.initial.self)
+invariant-loop-state l = Layering (played l.seat) l.self l.next l.depth l.phase l.state × (zeros l.self ≡ zeros l.fn.self)
 
 abbrev pub invariant-loop-phase : goal.invariant-loop-phase
-invariant-loop-phase l =
-    Layering (played l.play) l.self l.next l.depth l.phase 0
-    × (l.added ≡ false → vec_items l.self.ranks ≡ vec_items l.initial.self.ranks)
-    × (zeros l.self ≡ zeros l.initial.self)
+invariant-loop-phase l = Layering (played l.seat) l.self l.next l.depth l.phase 0 × (zeros l.self ≡ zeros l.fn.self)

@@ -1,19 +1,16 @@
-use Rattle.std.proofs.Common.{◌≡◌, ◌∙◌, arith}
+use Rattle.std.proofs.Common.{◌≡◌, arith}
 use Rattle.checking.specs.Snapshots.{played}
 use Rattle.checking.proofs.AttractorLaws.{layer_stops}
 use Rattle.checking.proofs.PassLaws.{tracks_top}
 use Rattle.checking.proofs.ranking.Ranking.attract.Goals as goal
 
-pub returns-then-not-add_layer : goal.returns-then-not-add_layer
-returns-then-not-add_layer c =
+pub returns-then-not-add_layer-clause-after : goal.returns-then-not-add_layer-clause-after
+returns-then-not-add_layer-clause-after c =
     let s = c.add_layer.ensures.stops c.if-not-add_layer.true in
     record {
-      layers = layer_stops (played c.args.play.now) _ _ c.loop-depth.depth (omega arith) (omega arith) s;
-      tracks = tracks_top (played c.args.play.now) _ _ _ 65535 (omega arith) (λ t q h. omega (arith, s.low t q h)) c.add_layer.ensures.tracks;
-      zeros = c.add_layer.ensures.zeros ∙ c.loop-depth.invariant.2;
+      layers = layer_stops (played c.args.seat.now) _ _ c.loop-depth.depth (omega arith) (omega arith) s;
+      tracks = tracks_top (played c.args.seat.now) _ _ _ 65535 (omega arith) (λ t q h. omega (arith, s.low t q h)) c.add_layer.ensures.after.tracks;
     }
 
-pub returns : goal.returns
-returns c =
-    let e : c.loop-depth.depth ≡ 65535 = omega arith in
-    record { layers = rw e at c.loop-depth.invariant.0; tracks = rw e at c.loop-depth.invariant.1; zeros = c.loop-depth.invariant.2 }
+pub returns-clause-after : goal.returns-clause-after
+returns-clause-after c = let e : c.loop-depth.depth ≡ 65535 = omega arith in rw e at c.loop-depth.invariant.0

@@ -1,10 +1,7 @@
 use Rattle.std.proofs.Common.{◌≡◌}
 use Rattle.checking.specs.Snapshots.{played}
-use Rattle.checking.specs.Solving.{ranks_in, zeros, Layers, Tracks}
+use Rattle.checking.specs.Solving.{zeros, Attracted}
 use Rattle.checking.proofs.ranking.Ranking.attract.Given as goal
 
 abbrev pub invariant-loop-depth : goal.invariant-loop-depth
-invariant-loop-depth l =
-    Layers (played l.play) l.self l.depth l.depth
-    × Tracks (played l.play) l.self.ranked (ranks_in (played l.play) l.self) l.depth
-    × (zeros l.self ≡ zeros l.initial.self)
+invariant-loop-depth l = Attracted (played l.seat) l.self l.depth × (zeros l.self ≡ zeros l.fn.self)

@@ -1,11 +1,7 @@
-use Rattle.std.proofs.Common.{arith}
-use Rattle.std.proofs.lemmas.List.Edits.{fill_by_more}
+use Rattle.std.proofs.Common.{rules, vec_len, refl, arith}
 use Rattle.checking.proofs.PlayLaws.{bounded}
 use Rattle.checking.proofs.PassLaws.{zero_least}
 use Rattle.checking.proofs.ranking.Ranking.begin.Goals as goal
 
-pub loop-i-preserved : goal.loop-i-preserved
-loop-i-preserved c = fill_by_more (λ _. 0) _ _ 0 (omega arith) c.loop-i.invariant
-
 pub returns : goal.returns
-returns c = zero_least _ (bounded c.args.play.now) c.loop-i.self (λ j h. c.loop-i.invariant j (omega arith))
+returns c = zero_least _ (bounded c.args.seat.now) _ (vec_len c.args.self.now.entries) _ refl (omega (arith, c.args.self.now.many)) (c.fill.ensures.items (λ y k. search rules))

@@ -1,14 +1,9 @@
-use Rattle.checking.specs.declared.ranking.Ranking.{Ranking}
 use Rattle.checking.specs.Snapshots.{played}
-use Rattle.checking.specs.Solving.{Tracks, Layers, ranks_in}
 use Rattle.checking.proofs.PassLaws.{Pruned}
 use Rattle.checking.proofs.ranking.Ranking.prune.Given as goal
 
--- whatever ranking the pass began with
 abbrev pub invariant-loop-state : goal.invariant-loop-state
-invariant-loop-state l =
-    (old : Ranking) → Tracks (played l.play) old.ranked (ranks_in (played l.play) old) 65535 → Layers (played l.play) old 65535 65535
-    → Pruned (played l.play) old l.initial.self l.phase 0 l.initial.pruned → Pruned (played l.play) old l.self l.phase l.state l.pruned
+invariant-loop-state l = Pruned (played l.seat) l.fn.self l.self l.phase l.state l.pruned
 
 abbrev pub invariant-loop-phase : goal.invariant-loop-phase
-invariant-loop-phase l = Pruned (played l.play) l.initial.self l.self l.phase 0 l.pruned
+invariant-loop-phase l = Pruned (played l.seat) l.fn.self l.self l.phase 0 l.pruned

@@ -6,25 +6,25 @@ use Rattle.checking.proofs.ranking.Ranking.renew.Goals as goal
 
 pub returns-in-Some : goal.returns-in-Some
 returns-in-Some c =
-    let y = c.args.play.now in
+    let y = c.args.seat.now in
     let g = c.give.ensures in (
       g.sets,
       λ e. record {
-        own = c.in-Some.own;
+        own = c.in-Some.choice;
         first = c.in-Some.ensures;
-        written = written (played y) (bounded y) _ _ c.requires.state c.requires.phase _ _ _ _ g.ranks g.choices;
-        zeros = omega (arith, zeros_kept (played y) (bounded y) c.args.state c.args.phase c.requires.state c.requires.phase c.args.self.now c.give.new.self 0 g.ranks refl e);
+        written = written (played y) (bounded y) _ _ c.requires.state c.requires.phase _ _ _ g.entries;
+        zeros = omega (arith, zeros_kept (played y) (bounded y) _ _ c.requires.state c.requires.phase c.args.self.now c.give.new.self _ g.entries refl e);
       },
     )
 
 pub returns-in-None : goal.returns-in-None
 returns-in-None c =
-    let y = c.args.play.now in
+    let y = c.args.seat.now in
     let g = c.give-in-None.ensures in (
       g.sets,
       record {
         stuck = c.in-None.ensures;
-        written = written (played y) (bounded y) _ _ c.requires.state c.requires.phase _ _ _ _ g.ranks g.choices;
-        zeros = zeros_fall (played y) (bounded y) c.args.state c.args.phase c.requires.state c.requires.phase c.args.self.now c.give-in-None.new.self 65535 g.ranks (omega arith);
+        written = written (played y) (bounded y) _ _ c.requires.state c.requires.phase _ _ _ g.entries;
+        zeros = zeros_fall (played y) (bounded y) _ _ c.requires.state c.requires.phase c.args.self.now c.give-in-None.new.self _ g.entries (omega arith);
       },
     )

@@ -1,3 +1,6 @@
+use Rattle.std.proofs.Common.{rules, ◌≡◌, ℕ, ◌<◌, arith}
+use Rattle.games.specs.Machines.{forbidden_in, goal_in}
+use Rattle.checking.specs.StateSets.{member}
 use Rattle.checking.proofs.SnapshotLaws.{moves_taken, forbidden_taken, goals_taken}
 use Rattle.checking.proofs.snapshot.Snapshot.take.Goals as goal
 
@@ -6,12 +9,14 @@ returns g c =
     let m = g.G.Machine.meaning c.args.game.now in
     let k = g.G.Game.marks c.args.game.now in
     let w = g.met.G.Machine.lawful c.args.game.now in
+    let forbidden : (t : ℕ) → t < m.states → member c.of-self.result t ≡ forbidden_in m k t = λ t h. (let i = c.of-self.ensures.below t (omega (arith, h, c.states.ensures)) in search rules) in
+    let goals : (t : ℕ) → t < m.states → member c.of-self-2.result t ≡ goal_in m k t = λ t h. (let i = c.of-self-2.ensures.below t (omega (arith, h, c.states-2.ensures)) in search rules) in
     record {
       states = c.states-self.ensures;
       own = c.own-self.ensures;
       partner = c.partner-self.ensures;
       start = c.start-self.ensures;
       moves = moves_taken m w _ c.states-self.ensures _ c.fill_rows.ensures.rows;
-      forbidden = forbidden_taken m w _ c.states-self.ensures k _ c.forbidden_states-self.ensures;
-      goals = goals_taken m w _ c.states-self.ensures k _ c.goal_states-self.ensures;
+      forbidden = forbidden_taken m w _ c.states-self.ensures k _ forbidden;
+      goals = goals_taken m w _ c.states-self.ensures k _ goals;
     }

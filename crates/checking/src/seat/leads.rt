@@ -1,0 +1,36 @@
+ghost use Rattle.std.specs.Prelude.{◌≡◌, ℕ, ◌<◌, ◌≤◌, length, Decides, MatchOption};
+ghost use Rattle.checking.specs.Snapshots.{played};
+ghost use Rattle.checking.specs.Solving.{Answered, Leading, First};
+
+use crate::seat::Seat;
+use crate::snapshot::{SIGNALS, Snapshot};
+use crate::state_set::StateSet;
+use reading::records::Position;
+
+impl Seat<'_, Snapshot> {
+    /// Whether a signal leads into the sets where the partner shows a signal.
+    fn answered(&self, sets: &[StateSet; 8], at: Position, own: u8, partner: u8) -> bool
+        ensures { Decides result (Answered (played self.now) sets.now at.state at.phase own partner) }
+    {
+        let row = self.game.row(at.state, own, partner);
+        let follow = self.follow(at.phase, own, partner);
+        !row.is_empty() && row.within(&sets[usize::from(follow)])
+    }
+
+    /// Whether a signal leads into the sets, whichever relied signal the partner shows.
+    fn leads(&self, sets: &[StateSet; 8], at: Position, own: u8) -> bool
+        ensures { Decides result (Leading (played self.now) sets.now at.state at.phase own) }
+    {
+        self.promised(at.phase, own)
+            && (0..SIGNALS).all(|partner| {
+                !self.relied(at.phase, partner) || self.answered(sets, at, own, partner)
+            })
+    }
+
+    /// The lowest signal that leads into the sets.
+    pub(crate) fn first(&self, sets: &[StateSet; 8], at: Position) -> Option<u8>
+        ensures { MatchOption result ((x : ℕ) → Leading (played self.now) sets.now at.state at.phase x → ⊥) (First (played self.now) sets.now at.state at.phase) }
+    {
+        (0..SIGNALS).find(|own| self.leads(sets, at, *own))
+    }
+}
