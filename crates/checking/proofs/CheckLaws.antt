@@ -11,8 +11,10 @@ use Rattle.reading.proofs.RecordLaws.{lawful_from, lawful_to}
 use Rattle.reading.specs.declared.phase_table.PhaseTable.{PhaseTable}
 use Rattle.games.specs.declared.deal.Deal.{Deal}
 use Rattle.games.specs.Machines.{Model, Marks, Lawful}
-use Rattle.games.specs.Sets.{width, pick}
-use Rattle.games.proofs.SetLaws.{in_words, has_low}
+use Rattle.games.specs.Sets.{width}
+use Rattle.reading.specs.Sides.{pick}
+use Rattle.games.proofs.SetLaws.{has_low}
+use Rattle.games.proofs.DealLaws.{relied_in_range}
 use Rattle.checking.specs.Arenas.{arena, promised, relied, suits, Suits}
 use Rattle.checking.specs.Controllers.{plan_of, plan_in, Bound}
 use Rattle.checking.specs.declared.faults.CheckFault.{CheckFault}
@@ -30,12 +32,11 @@ pub stops_below : {A : Type 0} (f : ℕ → Option Refusal) (k m n : ℕ) (x : C
 stops_below f k m n x r e h l i j = let p = err_from_is_err_and r e in rw (p.1, p.2) (first_at f k m n (numbers x) h l i j)
 
 -- a deal names signals of each side alone
-relied_low : (d : Deal) (side p b : ℕ) → relied d side p b ≡ true → b < pick side d.signals1 d.signals0
-relied_low d zero p b e = (in_words width d.phases d.signals1 d.reliance0 d.relied0).low p b e
-relied_low d (suc n) p b e = (in_words width d.phases d.signals0 d.reliance1 d.relied1).low p b e
+relied_low : (d : Deal) (side p b : ℕ) → relied d side p b ≡ true → b < pick side d.sizes.signals.second d.sizes.signals.first
+relied_low d side p b e = (relied_in_range d side p b e).1
 
 promised_low : (d : Deal) (side p x : ℕ) → promised d side p x ≡ true → x < 4
-promised_low d side p x e = has_low width (pick side d.promise0 d.promise1) p x e
+promised_low d side p x e = has_low width (pick side d.terms.first.promise d.terms.second.promise) p x e
 
 module _ (m : Model) (t : PhaseTable) (d : Deal) (side : ℕ) where
   pub suits_from : suits m t d side ≡ true → Suits m t d side
@@ -61,7 +62,7 @@ module _ (m : Model) (t : PhaseTable) (d : Deal) (side : ℕ) where
     fitted : Suits m t d side → Sized m t (parts_in xs) → Fitted (arena m k t d side) (plan_in xs)
     fitted s z = record {
       inside = λ s' p j. let i = kept_inside (parts_in xs) s' p j in (omega (arith, i.0, z.states), omega (arith, i.1, z.phases));
-      relies = λ p b e. let h : pick side d.signals1 d.signals0 ≡ pick side t.signals1 t.signals0 = cc (s.signals1, s.signals0) in omega (arith, relied_low d side p b e, s.partner);
+      relies = λ p b e. let h : pick side d.sizes.signals.second d.sizes.signals.first ≡ pick side t.sizes.signals.second t.sizes.signals.first = cc (s.signals1, s.signals0) in omega (arith, relied_low d side p b e, s.partner);
       moves = λ s' x b t' e. (w.inside s' x b t' e).3;
     }
 

@@ -2,7 +2,8 @@
 use Rattle.std.proofs.Common.{◌≡◌, ℕ, zero, suc, ◌<◌, ◌≤◌, Bool, true, false, cond, ◌&&◌, ltb, List, length, get_or, sym, refl, subst, ◌∙◌, Option, Some, None, inl, inr, Decides, MatchBool, MatchOption, arith}
 use Rattle.reading.specs.PhaseTables.{table_of, next_phase}
 use Rattle.reading.specs.declared.phase_table.PhaseTable.{PhaseTable}
-use Rattle.games.specs.Sets.{width, pick}
+use Rattle.games.specs.Sets.{width}
+use Rattle.reading.specs.Sides.{pick}
 use Rattle.games.proofs.SetLaws.{has_low}
 use Rattle.checking.specs.declared.state_set.StateSet.{StateSet}
 use Rattle.games.specs.declared.deal.Deal.{Deal}
@@ -18,26 +19,26 @@ use Rattle.reading.specs.Firsts.{some_below}
 use Rattle.reading.proofs.FirstLaws.{some_test, none_test}
 use Rattle.std.proofs.lemmas.Bool.{false≢true, cases_lt}
 
-next_low : (t : PhaseTable) (p a b : ℕ) → next_phase (table_of t) p a b < t.phases
-next_low t p a b = low (ltb p t.phases && (ltb a t.signals0 && ltb b t.signals1)) (t.closed _) t.some_phases
+next_low : (t : PhaseTable) (p a b : ℕ) → next_phase (table_of t) p a b < t.sizes.phases
+next_low t p a b = low (ltb p t.sizes.phases && (ltb a t.sizes.signals.first && ltb b t.sizes.signals.second)) (t.closed _) t.sizes.some_phases
   where
     low : (c : Bool) {x n : ℕ} → x < n → 1 ≤ n → cond c x 0 < n
     low true h l = h
     low false h l = omega arith
 
-pub follow_low : (t : PhaseTable) (side p x b : ℕ) → follow t side p x b < t.phases
+pub follow_low : (t : PhaseTable) (side p x b : ℕ) → follow t side p x b < t.sizes.phases
 follow_low t zero p x b = next_low t p x b
 follow_low t (suc n) p x b = next_low t p b x
 
 pub snap_bounded : (z : Snapshot) (t : PhaseTable) (d : Deal) (side : ℕ) → Bounded (snap_arena z t d side)
 snap_bounded z t d side = record {
-  some_phase = omega (arith, t.some_phases);
-  few_phases = t.few_phases;
+  some_phase = omega (arith, t.sizes.some_phases);
+  few_phases = t.sizes.few_phases;
   few_states = z.few_states;
   starts = z.starts;
   follows = follow_low t side;
-  relies = λ p b e. has_low width (pick side d.reliance0 d.reliance1) p b e;
-  promises = λ p x e. has_low width (pick side d.promise0 d.promise1) p x e;
+  relies = λ p b e. has_low width (pick side d.terms.first.reliance d.terms.second.reliance) p b e;
+  promises = λ p x e. has_low width (pick side d.terms.first.promise d.terms.second.promise) p x e;
 }
 
 pub bounded : (y : Seat Snapshot) → Bounded (played y)

@@ -72,7 +72,7 @@ pub same_arena : (m : Model) (k : Marks) (z : Snapshot) (t : PhaseTable) (d : De
 same_arena m k z t d side w =
     let f : (ℕ → ℕ → ℕ → ℕ → Bool) → (ℕ → Bool) → (ℕ → Bool) → ℕ → ℕ → ℕ → ℕ → Arena = λ move forbidden goal n own partner start. record {
       states = n;
-      phases = t.phases;
+      phases = t.sizes.phases;
       start = start;
       own = own;
       partner = partner;

@@ -9,8 +9,9 @@ use Rattle.reading.specs.Records.{parts_in, size_in, inside, choice_at, rank_at,
 use Rattle.reading.proofs.FirstLaws.{of_none, unless_none}
 use Rattle.reading.specs.declared.phase_table.PhaseTable.{PhaseTable}
 use Rattle.games.specs.declared.deal.Deal.{Deal}
-use Rattle.games.specs.Sets.{width, pick}
-use Rattle.games.proofs.SetLaws.{in_words}
+use Rattle.games.specs.Sets.{width}
+use Rattle.reading.specs.Sides.{pick}
+use Rattle.games.proofs.DealLaws.{promised_in_range}
 use Rattle.games.specs.Machines.{Model, Marks}
 use Rattle.games.specs.Machines.{Lawful as LawfulMachine}
 use Rattle.checking.specs.declared.ranking.Entry.{Entry}
@@ -29,9 +30,8 @@ use Rattle.checking.proofs.SolutionLaws.{same_arena, solved, starts, none_contro
 use Rattle.checking.proofs.UniqueLaws.{same_entries, choice_byte, rank_pair, same_bytes}
 
 -- a promised signal is one of the side's own
-pub promised_own : (d : Deal) (side p x : ℕ) → promised d side p x ≡ true → x < pick side d.signals0 d.signals1
-promised_own d zero p x e = (in_words width d.phases d.signals0 d.promise0 d.promised0).low p x e
-promised_own d (suc n) p x e = (in_words width d.phases d.signals1 d.promise1 d.promised1).low p x e
+pub promised_own : (d : Deal) (side p x : ℕ) → promised d side p x ≡ true → x < pick side d.sizes.signals.first d.sizes.signals.second
+promised_own d side p x e = (promised_in_range d side p x e).1
 
 -- a written record holds the plan of the ranking
 module _ (a : Arena) (z : Ranking) (xs : List ℕ) (w : Wrote a z xs) where
@@ -106,14 +106,14 @@ module _ (m : Model) (k : Marks) (t : PhaseTable) (d : Deal) (side : ℕ) where
       (omega (arith, f.lawful.some_phases)) (same_entries (arena m k t d side) (plan_in xs) (plan_in ys) f.solved g.solved) f.lawful.long g.lawful.long
 
   -- nothing is refused before solving
-  head_none : (size : ℕ) → Suits m t d side → size ≡ record_size m.states t.phases → solve_head m t d side size ≡ None
+  head_none : (size : ℕ) → Suits m t d side → size ≡ record_size m.states t.sizes.phases → solve_head m t d side size ≡ None
   head_none size s e = of_none _ _ (unless_none _ _ (suits_to m t d side s)) (unless_none _ _ (eq-eqb _ _ e))
 
   module _ (w : LawfulMachine m) (s : Suits m t d side) (z : Ranking) (b : Bounded (arena m k t d side)) (st : Stable (arena m k t d side) (ranks_in (arena m k t d side) z) (choices_in (arena m k t d side) z)) where
     nothing_controls : 65535 ≤ ranks_in (arena m k t d side) z m.start 0 → (xs : List ℕ) → Ranked m k t d side xs → ⊥
     nothing_controls h xs r = none_controls (arena m k t d side) _ _ st h (plan_in xs) r.controller
 
-    module _ (old xs : List ℕ) (size : length old ≡ record_size m.states t.phases) (wr : Wrote (arena m k t d side) z xs) where
+    module _ (old xs : List ℕ) (size : length old ≡ record_size m.states t.sizes.phases) (wr : Wrote (arena m k t d side) z xs) where
       own : (p x : ℕ) → promised d side p x ≡ true → x < m.own
       own p x e = omega (arith, promised_own d side p x e, s.own, pick_same side s.signals0 s.signals1)
         where
@@ -157,7 +157,7 @@ module _ (m : Model) (k : Marks) (t : PhaseTable) (d : Deal) (side : ℕ) (w : L
   st : Stable (arena m k t d side) (ranks_in (arena m k t d side) r) (choices_in (arena m k t d side) r)
   st = over (λ a. Stable a (ranks_in a r) (choices_in a r)) settled
 
-  module _ (old : List ℕ) (size : length old ≡ record_size m.states t.phases) where
+  module _ (old : List ℕ) (size : length old ≡ record_size m.states t.sizes.phases) where
     pub lawful_written : (xs : List ℕ) → Wrote (snap_arena z t d side) r xs → Lawful xs
     lawful_written xs wr = lawful_xs m k t d side w (suits_from m t d side sized) r b st old xs size (over (λ a. Wrote a r xs) wr)
 

@@ -3,17 +3,18 @@ use Rattle.std.specs.Prelude.{◌≡◌, ℕ, ◌≤◌, Bool, ◌&&◌, ◌==�
 use Rattle.reading.specs.declared.phase_table.PhaseTable.{PhaseTable}
 use Rattle.reading.specs.PhaseTables.{table_of, next_phase}
 use Rattle.games.specs.declared.deal.Deal.{Deal}
-use Rattle.games.specs.Sets.{width, has, pick}
+use Rattle.games.specs.Sets.{width, has}
+use Rattle.reading.specs.Sides.{pick}
 use Rattle.games.specs.Machines.{Model, Marks, forbidden_in, goal_in}
 use Rattle.checking.specs.declared.seat.Seat.{Seat}
 
 -- whether a side promises a signal of its own in a phase: deal, side, phase, signal
 abbrev pub promised : Deal → ℕ → ℕ → ℕ → Bool
-promised d side = has width (pick side d.promise0 d.promise1)
+promised d side = has width (pick side d.terms.first.promise d.terms.second.promise)
 
 -- whether a side relies on a signal of its partner in a phase: deal, side, phase, signal
 abbrev pub relied : Deal → ℕ → ℕ → ℕ → Bool
-relied d side = has width (pick side d.reliance0 d.reliance1)
+relied d side = has width (pick side d.terms.first.reliance d.terms.second.reliance)
 
 -- the phase after a phase, a side's own signal and its partner's: the table names side 0's signal first
 abbrev pub follow : PhaseTable → ℕ → ℕ → ℕ → ℕ → ℕ
@@ -40,7 +41,7 @@ pub record Arena : Type 0 where
 abbrev pub arena : Model → Marks → PhaseTable → Deal → ℕ → Arena
 arena m k t d side = record {
   states = m.states;
-  phases = t.phases;
+  phases = t.sizes.phases;
   start = m.start;
   own = m.own;
   partner = m.partner;
@@ -56,20 +57,20 @@ arena m k t d side = record {
 abbrev pub suits : Model → PhaseTable → Deal → ℕ → Bool
 suits m t d side =
     nat_le side 1
-    && (t.phases == d.phases
-    && (t.signals0 == d.signals0
-    && (t.signals1 == d.signals1
-    && (m.own == pick side t.signals0 t.signals1
-    && m.partner == pick side t.signals1 t.signals0))))
+    && (t.sizes.phases == d.sizes.phases
+    && (t.sizes.signals.first == d.sizes.signals.first
+    && (t.sizes.signals.second == d.sizes.signals.second
+    && (m.own == pick side t.sizes.signals.first t.sizes.signals.second
+    && m.partner == pick side t.sizes.signals.second t.sizes.signals.first))))
 
 -- the same in words
 pub record Suits (m : Model) (t : PhaseTable) (d : Deal) (side : ℕ) : Type 0 where
   pub there : side ≤ 1
-  pub phases : t.phases ≡ d.phases
-  pub signals0 : t.signals0 ≡ d.signals0
-  pub signals1 : t.signals1 ≡ d.signals1
-  pub own : m.own ≡ pick side t.signals0 t.signals1
-  pub partner : m.partner ≡ pick side t.signals1 t.signals0
+  pub phases : t.sizes.phases ≡ d.sizes.phases
+  pub signals0 : t.sizes.signals.first ≡ d.sizes.signals.first
+  pub signals1 : t.sizes.signals.second ≡ d.sizes.signals.second
+  pub own : m.own ≡ pick side t.sizes.signals.first t.sizes.signals.second
+  pub partner : m.partner ≡ pick side t.sizes.signals.second t.sizes.signals.first
 
 -- what is played from a seat, by what its game means
 abbrev pub playing : {G : Type 0} → (G → Model) → (G → Marks) → Seat G → Arena

@@ -65,12 +65,12 @@ plan_fault a c = first_some (unless (keeps c a.start 0) (numbers (StartAbsent a.
 
 -- whether a record is of the sizes of game and table
 abbrev pub sized : Model → PhaseTable → Parts → Bool
-sized m t r = r.states == m.states && (r.phases == t.phases && r.signals == m.own)
+sized m t r = r.states == m.states && (r.phases == t.sizes.phases && r.signals == m.own)
 
 -- the same in words
 pub record Sized (m : Model) (t : PhaseTable) (r : Parts) : Type 0 where
   pub states : r.states ≡ m.states
-  pub phases : r.phases ≡ t.phases
+  pub phases : r.phases ≡ t.sizes.phases
   pub signals : r.signals ≡ m.own
 
 -- the first fault of a check: side and sizes of game, table and deal; reading; sizes of the record; then the plan

@@ -48,7 +48,7 @@ pub record Taken (m : Model) (k : Marks) (z : Snapshot) : Type 0 where
 abbrev pub snap_arena : Snapshot → PhaseTable → Deal → ℕ → Arena
 snap_arena z t d side = record {
   states = z.states;
-  phases = t.phases;
+  phases = t.sizes.phases;
   start = z.start;
   own = z.own;
   partner = z.partner;

@@ -42,7 +42,7 @@ pub record Solution (m : Model) (k : Marks) (t : PhaseTable) (d : Deal) (side : 
 abbrev pub solve_head : Model → PhaseTable → Deal → ℕ → ℕ → Option ℕ
 solve_head m t d side size =
     first_some (unless (suits m t d side) (solve_number fault.Sizes))
-    (unless (size == record_size m.states t.phases) (solve_number fault.Buffer))
+    (unless (size == record_size m.states t.sizes.phases) (solve_number fault.Buffer))
 
 -- a bound is answered: nothing was refused before, the buffer holds the one solved record, it keeps the start, and checking
 -- accepts it with that bound

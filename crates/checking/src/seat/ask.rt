@@ -37,18 +37,11 @@ impl<G: Machine> Seat<'_, G> {
     pub(crate) fn suits(&self) -> bool
         ensures { result ≡ suits (G.Machine.meaning self.now.game.now) self.now.table.now self.now.deal.now self.now.side }
     {
-        let (signals0, signals1) = (self.table.signals0(), self.table.signals1());
-        let (own, partner) = if self.side == 0 {
-            (signals0, signals1)
-        } else {
-            (signals1, signals0)
-        };
+        let sizes = self.table.sizes();
         self.side <= 1
-            && self.table.phases() == self.deal.phases()
-            && signals0 == self.deal.signals0()
-            && signals1 == self.deal.signals1()
-            && self.game.own() == own
-            && self.game.partner() == partner
+            && sizes == self.deal.sizes()
+            && self.game.own() == sizes.signals.own(self.side)
+            && self.game.partner() == sizes.signals.partner(self.side)
     }
 
     /// Whether there is a next state under two signals.

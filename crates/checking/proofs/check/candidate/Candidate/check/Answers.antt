@@ -14,5 +14,5 @@ loop-phase-preserved g c = search (rules, none_more)
 
 pub loop-state-preserved : goal.loop-state-preserved
 loop-state-preserved g c =
-    let n = c.args.self.now.seat.table.now.phases in
+    let n = c.args.self.now.seat.table.now.sizes.phases in
     none_more c.loop-state.state _ c.loop-phase.invariant.0 (sym (none_end c.loop-phase.phase n _ (omega (arith, c.phases-phase-end.ensures, c.loop-phase-test.false)) c.loop-phase.invariant.1))

@@ -5,7 +5,7 @@ use Rattle.checking.proofs.seat.leads.Seat+Snapshot.answered.Goals as goal
 pub bounds-sets-from : goal.bounds-sets-from
 bounds-sets-from c =
     let t = c.args.self.now.table.now in
-    omega (arith, c.from.ensures, c.follow-follow.ensures, follow_low t c.args.self.now.side c.args.at.phase c.args.own c.args.partner, t.few_phases)
+    omega (arith, c.from.ensures, c.follow-follow.ensures, follow_low t c.args.self.now.side c.args.at.phase c.args.own c.args.partner, t.sizes.few_phases)
 
 pub returns-then-not-is_empty : goal.returns-then-not-is_empty
 returns-then-not-is_empty c =
