@@ -15,13 +15,6 @@ use Rattle.checking.proofs.PlaceLaws.{held_in, held_or, before_none, before_next
 use Rattle.checking.proofs.SnapshotLaws.{Gathered, gather_skip}
 use Rattle.checking.proofs.AttractorLaws.{leads_into, first_lowest, rival_leads, layered_least, full_else, layer_done, layered_stable, written_all, full_join, join, fresh_none, fresh_zero, fresh_layers}
 
--- a rank that is not d is below d exactly if it is below d + 1
-ltb_next : (n d : ℕ) → (n ≡ d → ⊥) → ltb n d ≡ ltb n (d + 1)
-ltb_next n d h = elim (cases_lt n d) [
-  | inl l ↦ lt-ltb n d l ∙ sym (lt-ltb n (d + 1) (omega arith))
-  | inr l ↦ le-ltb n d l ∙ sym (le-ltb n (d + 1) (omega (arith, h)))
-]
-
 -- sets that track all ranks track the ranks below any higher bound
 pub tracks_top : (a : Arena) (sets : List StateSet) (rank : ℕ → ℕ → ℕ) (d e : ℕ) → d ≤ e → ((s p : ℕ) → rank s p < e → rank s p < d) → Tracks a sets rank d → Tracks a sets rank e
 tracks_top a sets rank d e le low tr t q hq = tr t q hq ∙ (elim (cases_lt (rank t q) d) [
@@ -32,15 +25,6 @@ tracks_top a sets rank d e le low tr t q hq = tr t q hq ∙ (elim (cases_lt (ran
   ]
 ])
 
-pub layering_start : (a : Arena) (z : Ranking) (d : ℕ) → d < 65535 → Layers a z d d → Tracks a z.ranked (ranks_in a z) d → Layering a z z.ranked d 0 0
-layering_start a z d few l tr = record {
-  layered = record { grown = l.grown; low = λ s p h. omega (arith, l.low s p h); full = l.full };
-  done = before_none a _;
-  present = tr;
-  coming = λ t q hq. tr t q hq ∙ ltb_next (ranks_in a z t q) d (λ e. omega (arith, l.low t q (omega arith)));
-  eight = z.eight;
-}
-
 module _ (a : Arena) (b : Bounded a) (z : Ranking) (next : List StateSet) (d p s : ℕ) (i : Layering a z next d p s) where
   pub layering_keep : Barred a z s p → Layering a z next d p (s + 1)
   layering_keep barred = record {
@@ -50,9 +34,6 @@ module _ (a : Arena) (b : Bounded a) (z : Ranking) (next : List StateSet) (d p s
     coming = i.coming;
     eight = i.eight;
   }
-
-  pub layering_turn : a.states ≤ s → Layering a z next d (p + 1) 0
-  layering_turn end = record { layered = i.layered; done = before_turn a _ p s end i.done; present = i.present; coming = i.coming; eight = i.eight }
 
   pub layering_add : (new : Ranking) (more : StateSet) (x : ℕ) → Joining a z s p x → Written a z new s p d x → new.ranked ≡ z.ranked → 0 < d → d < 65535
       → ((t : ℕ) → member more t ≡ (eqb t s || member (get_or next p nothing) t)) → Layering a new (set next p more) d p (s + 1)
@@ -105,13 +86,6 @@ module _ (a : Arena) (z : Ranking) (next : List StateSet) (d p : ℕ) (end : a.p
       (before_all a _ p end i.done)
 
 -- keeping the targets alone
-
-pub resetting_start : (a : Arena) (z : Ranking) → Least a (ranks_in a z) → Resetting a z 0 0
-resetting_start a z least = record {
-  targets = λ r v t q k g. omega (arith, least r v t q k, v.zero_at_goals t q k g);
-  done = before_none a _;
-  sets = λ t q h. absurd (omega arith);
-}
 
 -- the states of a phase, before state s, whose rank is 0
 abbrev pub KeptIn : Arena → Ranking → ℕ → StateSet → ℕ → Type 0

@@ -1,11 +1,10 @@
 -- Sets of states that a loop gathers, and the snapshot that is made of them.
-use Rattle.std.proofs.Common.{◌≡◌, ℕ, ◌+◌, ◌/◌, ◌%◌, ◌<◌, ◌≤◌, Bool, true, false, ◌&&◌, ◌||◌, eqb, ltb, ◌⊎◌, List, get_or, sym, refl, ap, ◌∙◌, subst, inl, inr, arith}
+use Rattle.std.proofs.Common.{◌≡◌, ℕ, ◌+◌, ◌/◌, ◌%◌, ◌<◌, ◌≤◌, Bool, true, false, ◌&&◌, ◌||◌, eqb, ltb, ◌⊎◌, List, get_or, sym, ap, ◌∙◌, subst, inl, inr, arith}
 use Rattle.std.proofs.lemmas.Bool.{eq-eqb, ne_eqb, lt-ltb, le-ltb, lt-leb, le-leb, cases_lt, cases_eq, cases_Bool, ltb-true, and_parts, and_from}
 use Rattle.games.specs.Machines.{Model, Marks, Lawful, forbidden_in, goal_in}
 use Rattle.checking.specs.declared.state_set.StateSet.{StateSet}
 use Rattle.checking.specs.StateSets.{member, nothing}
 use Rattle.checking.specs.Snapshots.{row_of, rows_move, set_forbidden, set_goal}
-use Rattle.checking.proofs.StateSetLaws.{none_in}
 
 -- of the states below i a set has those that pass, and it has no other
 pub record Gathered (P : ℕ → Bool → Type 0) (x : StateSet) (i : ℕ) : Type 0 where
@@ -13,9 +12,6 @@ pub record Gathered (P : ℕ → Bool → Type 0) (x : StateSet) (i : ℕ) : Typ
   pub above : (u : ℕ) → i ≤ u → member x u ≡ false
 
 module _ (P : ℕ → Bool → Type 0) where
-  pub gather_none : Gathered P nothing 0
-  gather_none = record { below = λ u h. absurd (omega arith); above = λ u h. none_in nothing refl refl u }
-
   module _ (x : StateSet) (i : ℕ) (g : Gathered P x i) where
     pub gather_put : (y : StateSet) → ((u : ℕ) → member y u ≡ (eqb u i || member x u)) → P i true → Gathered P y (i + 1)
     gather_put y put p = record {

@@ -7,7 +7,7 @@ use Rattle.std.proofs.lemmas.Bool.{eqb-true, and_parts, and_from, eq-eqb, ne_eqb
 use Rattle.std.proofs.lemmas.Nat.{pow-add, pow_below, shl-shr, or_shr, or_mod, mod_below, one_shl}
 use Rattle.reading.specs.Bytes.{bit}
 use Rattle.reading.specs.Marks.{implies}
-use Rattle.reading.proofs.Bits.{shift_none, bit_below, no_bit, bit_of_and}
+use Rattle.reading.proofs.Bits.{shift_none, bit_below, bit_of_and}
 use Rattle.games.proofs.SetLaws.{top_bit, and_inside}
 use Rattle.checking.specs.declared.state_set.StateSet.{StateSet}
 use Rattle.checking.specs.StateSets.{member}
@@ -78,13 +78,6 @@ module _ (x : StateSet) (s : ℕ) where
         | inl q ↦ eq-eqb _ _ (omega arith) ∙ sym (eq-eqb t s q)
         | inr n ↦ ne_eqb _ _ (λ q. n (omega arith)) ∙ sym (ne_eqb t s n)
       ]
-
--- a set whose words are 0 has no state
-pub none_in : (x : StateSet) → x.low ≡ 0 → x.high ≡ 0 → (t : ℕ) → member x t ≡ false
-none_in x a b t = elim (cases_lt t 128) [
-  | inl h ↦ cond-true _ _ _ (lt-ltb t 128 h) ∙ ap (λ n. bit n t) a ∙ no_bit t
-  | inr h ↦ cond-false _ _ _ (le-ltb t 128 h) ∙ ap (λ n. bit n (t - 128)) b ∙ no_bit (t - 128)
-]
 
 -- a set with a word that is not 0 has one
 pub some_low : (x : StateSet) → x.low < 2 ^ 128 → (x.low ≡ 0 → ⊥) → (t : ℕ) × (member x t ≡ true)
