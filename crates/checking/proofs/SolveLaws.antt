@@ -9,7 +9,6 @@ use Rattle.reading.specs.Records.{parts_in, size_in, inside, choice_at, rank_at,
 use Rattle.reading.proofs.FirstLaws.{of_none, unless_none}
 use Rattle.reading.specs.declared.phase_table.PhaseTable.{PhaseTable}
 use Rattle.games.specs.declared.deal.Deal.{Deal}
-use Rattle.games.specs.Sets.{width}
 use Rattle.reading.specs.Sides.{pick}
 use Rattle.games.proofs.DealLaws.{promised_in_range}
 use Rattle.games.specs.Machines.{Model, Marks}
