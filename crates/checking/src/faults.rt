@@ -62,7 +62,8 @@ impl fmt::Display for CheckFault {
     ghost output = { λ x. Some (codes "refused " ++ decimal (numbers x).number) };
 
     fn fmt<W: fmt::Write>(&self, f: &mut fmt::Formatter<W>) -> fmt::Result {
-        write!(f, "refused {}", self.number())
+        let number = self.number();
+        write!(f, "refused {number}")
     }
 }
 

@@ -25,6 +25,7 @@ const ABSENT: Entry = Entry {
 #[derive(Drop)]
 pub(crate) struct Ranking {
     entries: Vec<Entry>,
+    // one for each phase that there can be, made once
     ranked: [StateSet; 8],
     ghost many: { vec_len entries ≡ 2048 },
     ghost eight: { length ranked ≡ 8 },

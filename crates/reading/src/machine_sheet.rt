@@ -23,6 +23,7 @@ pub struct Frame {
 pub struct MachineSheet<'a> {
     pub frame: Frame,
     pub moves: u16,
+    // parallel parts, as the format has them: the sheet copies nothing
     labels: &'a [u8],
     keys: &'a [u8],
     targets: &'a [u8],

@@ -6,6 +6,7 @@ ghost use Rattle.reading.specs.Marks.{Inside, Apart};
 #[derive(Clone, Copy)]
 pub struct MarkSheet {
     states: u16,
+    // a bit for each of 256 states, as the format has them, with no heap
     forbidden: [u8; 32],
     goals: [u8; 32],
     ghost forbidden_inside: { Inside states forbidden },

@@ -10,6 +10,7 @@ use crate::sizes::Sizes;
 #[derive(Clone, Copy)]
 pub struct PhaseTable {
     sizes: Sizes,
+    // room for the largest table, since a place is read into without a heap
     entries: [u8; 128],
     ghost closed: { AllBelow sizes.phases entries },
 }

@@ -2,10 +2,10 @@ mod read;
 
 ghost use Rattle.std.specs.Prelude.{◌≡◌};
 
-/// Stands for no choice in a record.
+/// Stands for no choice in a record. It stays a number, since no machine moves under it: as an `Option` each test would undo it.
 pub const NO_CHOICE: u8 = 255;
 
-/// Stands for no rank in a record.
+/// Stands for no rank in a record. It stays a number, since it is above every kept rank, as the rules compare them.
 pub const NO_RANK: u16 = 65_535;
 
 /// A controller record that was read: its sizes, and the parts of the bytes that hold choices and ranks.
@@ -14,6 +14,7 @@ pub struct Record<'a> {
     pub states: u16,
     pub phases: u8,
     pub signals: u8,
+    // two parallel parts, as the format has them: callers are given either as it stands in their bytes
     choices: &'a [u8],
     ranks: &'a [u8],
 }

@@ -10,6 +10,7 @@ pub struct RuleSheet {
     accepting: u8,
     forbidden: u8,
     start: u8,
+    // room for the largest automaton, with no heap
     next: [u8; 64],
     ghost some_states: { 1 ≤ states },
     ghost few_states: { states ≤ 8 },

@@ -68,6 +68,7 @@ impl Ranking {
         ensures fewer { result ≡ true → zeros self.new < zeros self.old }
         ensures stable { result ≡ false → Stable (played seat.now) (ranks_in (played seat.now) self.new) (choices_in (played seat.now) self.new) }
     {
+        // every target is renewed, so no chain that stops at the first that is given up
         let mut pruned = false;
         for phase in 0..seat.table.phases() {
             for state in 0..seat.game.states() {

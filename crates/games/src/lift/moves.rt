@@ -95,6 +95,7 @@ impl Machine for Lift {
         if !self.in_range(state, own, partner, next) {
             return false;
         }
+        // own signals are numbers at every machine, and no other function names these four
         match own {
             0 => next == state,
             1 => goes_up(state, next),

@@ -60,6 +60,7 @@ impl Talk {
     }
 }
 
+// Each step has a `close` of its own, since each is a type of its own: no step can be taken twice or out of turn.
 impl Bid {
     /// Side 1 replies with its own terms; refused, the bid stands as it was.
     pub fn reply(self, terms: Terms) -> Result<Reply, (Bid, TalkFault)>
