@@ -1,7 +1,7 @@
 mod ask;
 mod take;
 
-ghost use Rattle.std.specs.Prelude.{◌≡◌, ◌<◌, ◌≤◌, ◌+◌, ◌*◌, vec_len};
+ghost use Rattle.std.specs.Prelude.{◌<◌, ◌+◌, ◌*◌, ◌≡◌, ◌≤◌, vec_len};
 
 use crate::state_set::StateSet;
 

@@ -185,13 +185,6 @@ from_words w phases k set some d =
     (shift_zero set (w * phases) ∙ lt-ltb set (2 ^ (w * phases)) (ends_low w set phases some d.ends))
     (all_from phases f (λ p l. let s = d.some p l in filled_from w set p k s.0 s.1 (d.low p)))
 
--- a set as described has nothing out of range
-pub past_phases : (w phases k set p j : ℕ) → described w phases k set ≡ true → phases ≤ p → false ≡ has w set p j
-past_phases w phases k set p j d l = has_not w set p j (λ e. omega (arith, (in_words w phases k set d).ends p j e))
-
-pub past_signals : (w phases k set p j : ℕ) → described w phases k set ≡ true → k ≤ j → false ≡ has w set p j
-past_signals w phases k set p j d l = has_not w set p j (λ e. omega (arith, (in_words w phases k set d).low p j e))
-
 -- a set within another: the test and the words agree
 
 pub inside_signal : (w inner outer p j : ℕ) → inside w inner outer p ≡ true → implies (has w inner p j) (has w outer p j) ≡ true

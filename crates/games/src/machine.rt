@@ -1,6 +1,8 @@
 ghost use Rattle.std.specs.Prelude.{◌≡◌};
 ghost use Rattle.games.specs.Machines.{Model, Marks, Lawful, forbidden_in, goal_in};
 
+use reading::machine_sheet::Frame;
+
 /// A machine answers each question from its meaning alone, whatever numbers it is asked about.
 pub trait Machine {
     ghost meaning: { Self → Model };
@@ -30,6 +32,21 @@ pub trait Machine {
         ensures { result ≡ (meaning self.now).move state own partner next };
 
     ghost lawful: { (x : Self) → Lawful (meaning x) };
+}
+
+/// How large a machine is, and where it starts, as one value.
+pub fn frame<M: Machine>(machine: &M) -> Frame
+    ensures states { result.states ≡ (M.Machine.meaning machine.now).states }
+    ensures own { result.own ≡ (M.Machine.meaning machine.now).own }
+    ensures partner { result.partner ≡ (M.Machine.meaning machine.now).partner }
+    ensures start { result.start ≡ (M.Machine.meaning machine.now).start }
+{
+    Frame {
+        states: machine.states(),
+        own: machine.own(),
+        partner: machine.partner(),
+        start: machine.start(),
+    }
 }
 
 /// A game is a machine with two more questions.

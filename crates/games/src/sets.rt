@@ -1,4 +1,4 @@
-ghost use Rattle.std.specs.Prelude.{◌≡◌, ◌/◌, ◌^◌, ◌==◌};
+ghost use Rattle.std.specs.Prelude.{◌/◌, ◌^◌, ◌≡◌, ◌==◌};
 ghost use Rattle.games.specs.Sets.{width, has, row, after, filled, described, inside};
 
 /// How many signals a phase has room for.

@@ -39,8 +39,7 @@ impl<M: Machine + Drop> Watched<M> {
         }
     }
 
-    /// Takes over the automaton of a rule sheet; on a refusal it stays as it was. A marked machine's
-    /// `mark` reads and keeps something else: a form for both would be longer than these two lines.
+    /// Takes over the automaton of a rule sheet; on a refusal it stays as it was.
     pub fn watch(&mut self, bytes: &[u8]) -> Result<(), ReadFault>
         ensures first { told result ≡ rule_fault (M.Machine.meaning self.old.below).states bytes.now }
         ensures below { self.new.below ≡ self.old.below }

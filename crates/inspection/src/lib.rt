@@ -2,6 +2,7 @@
 
 #![tactic(auto)]
 
+mod frame_words;
 pub mod kinds;
 mod machine;
 pub mod machines;
@@ -12,4 +13,3 @@ mod records;
 mod refusals;
 mod rule;
 pub mod sheets;
-mod sizes;

@@ -1,9 +1,9 @@
-ghost use Rattle.std.specs.Prelude.{◌≡◌, ℕ, ◌+◌, ◌-◌, ◌*◌, ◌<◌, ◌≤◌, ◌||◌, ◌≢◌, nat_le};
+ghost use Rattle.std.specs.Prelude.{◌+◌, ◌<◌, ◌≡◌, ℕ, ◌-◌, ◌≤◌, ◌||◌, ◌≢◌, nat_le};
 ghost use Rattle.reading.specs.MachineSheets.{sheet_of};
 ghost use Rattle.inspection.specs.Sources.{state_at, opens_at};
 
+use crate::frame_words::FrameWords;
 use crate::places::Source;
-use crate::sizes::Sizes;
 use reading::machine_sheet::MachineSheet;
 use std::fmt::{self, Formatter, Write};
 
@@ -11,7 +11,7 @@ use std::fmt::{self, Formatter, Write};
 fn source_at(sheet: &MachineSheet<'_>, i: u16) -> Source
     ensures { result.state ≡ state_at (sheet_of sheet.now) i }
 {
-    Source::of(sheet.entry(i).key, sheet.frame.own, sheet.frame.partner)
+    Source::of(sheet.entry(i).key, sheet.frame().own, sheet.frame().partner)
 }
 
 /// The first move from `from` on that does not start in the state.
@@ -20,9 +20,9 @@ fn end_of(sheet: &MachineSheet<'_>, state: u16, from: u16) -> u16
     ensures before { (i : ℕ) → from ≤ i → i < result → i < sheet.now.moves → state_at (sheet_of sheet.now) i ≡ state }
     ensures stops { result < sheet.now.moves → state_at (sheet_of sheet.now) result ≢ state }
 {
-    (from..sheet.moves)
+    (from..sheet.moves())
         .find(|&i| source_at(sheet, i).state != state)
-        .unwrap_or(sheet.moves)
+        .unwrap_or(sheet.moves())
 }
 
 /// Whether a move is the first of its key.
@@ -36,7 +36,7 @@ fn opens(sheet: &MachineSheet<'_>, i: u16) -> bool
 fn closes(sheet: &MachineSheet<'_>, i: u16) -> bool
     ensures { result ≡ (nat_le (sheet.now.moves - 1) i || opens_at (sheet_of sheet.now) (i + 1)) }
 {
-    i >= sheet.moves.saturating_sub(1) || opens(sheet, i + 1)
+    i >= sheet.moves().saturating_sub(1) || opens(sheet, i + 1)
 }
 
 /// One line for all targets of a key: the move that opens the key begins it.
@@ -65,7 +65,7 @@ fn write_moves<W: Write>(
     let keys = (from..end).filter(|&i| opens(sheet, i)).count();
     if keys == 0 {
         writeln!(f, " no moves")
-    } else if keys < usize::from(sheet.frame.own) * usize::from(sheet.frame.partner) {
+    } else if keys < usize::from(sheet.frame().own) * usize::from(sheet.frame().partner) {
         writeln!(f, "\n  no other move")
     } else {
         writeln!(f)
@@ -78,7 +78,7 @@ fn write_heading<W: Write>(
     state: u16,
 ) -> fmt::Result {
     let label = sheet.label(state);
-    let start = if state == sheet.frame.start {
+    let start = if state == sheet.frame().start {
         ", start"
     } else {
         ""
@@ -88,11 +88,11 @@ fn write_heading<W: Write>(
 
 /// The sizes, then the moves of each state.
 pub(crate) fn write<W: Write>(f: &mut Formatter<W>, sheet: &MachineSheet<'_>) -> fmt::Result {
-    let sizes = Sizes(sheet.frame);
-    let moves = sheet.moves;
+    let sizes = FrameWords(sheet.frame());
+    let moves = sheet.moves();
     writeln!(f, "machine sheet\n{sizes}moves            {moves:>4}\n")?;
     let mut from = 0;
-    for state in 0..sheet.frame.states {
+    for state in 0..sheet.frame().states {
         // Moves stand in the order of their states, so one walk meets them all.
         let end = end_of(sheet, state, from);
         write_heading(f, sheet, state)?;

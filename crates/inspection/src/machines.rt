@@ -2,13 +2,14 @@ ghost use Rattle.std.specs.Prelude.{◌≤◌, IfOk, string_bytes};
 ghost use Rattle.games.specs.Lifts.{lift_fault};
 ghost use Rattle.inspection.specs.Refusals.{Tells, product_fault};
 
+use crate::frame_words::FrameWords;
 use crate::kinds::Kind;
 use crate::refusals::{Sentence, refusal};
-use crate::sizes::Sizes;
 use games::lift::Lift;
-use games::machine::{Game, Machine};
+use games::machine::{Game, Machine, frame};
 use games::sheet_machine::SheetMachine;
 use games::watched::Watched;
+use reading::faults::ReadFault;
 use std::alloc::{AllocError, Global};
 use std::fmt::{self, Formatter, Write};
 
@@ -74,7 +75,7 @@ impl<G: Game> WatchedWords<'_, G> {
 
 impl<G: Game> fmt::Display for WatchedWords<'_, G> {
     fn fmt<W: Write>(&self, f: &mut Formatter<W>) -> fmt::Result {
-        let sizes = Sizes::of(self.game);
+        let sizes = FrameWords(frame(self.game));
         writeln!(f, "machine watched by an automaton\n{sizes}")?;
         for state in 0..self.game.states() {
             self.write_state(f, state)?;
@@ -90,7 +91,7 @@ struct LiftWords<'a>(&'a Lift);
 impl fmt::Display for LiftWords<'_> {
     fn fmt<W: Write>(&self, f: &mut Formatter<W>) -> fmt::Result {
         let lift = self.0;
-        let sizes = Sizes::of(lift);
+        let sizes = FrameWords(frame(lift));
         writeln!(f, "lift\n{sizes}")?;
         for state in 0..lift.states() {
             let floor = state / 2;
@@ -109,7 +110,7 @@ pub fn lift(heap: Global, floors: u8, signals: u8) -> Result<String, AllocError>
 {
     match Lift::new(floors, signals) {
         Ok(lift) => LiftWords(&lift).to_string(heap),
-        Err(fault) if fault.place() == 0 => refusal(heap, fault, "A lift has 2 to 32 floors."),
+        Err(fault @ ReadFault::Field(0)) => refusal(heap, fault, "A lift has 2 to 32 floors."),
         Err(fault) => refusal(heap, fault, "A lift has 2 to 4 partner signals."),
     }
 }

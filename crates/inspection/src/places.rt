@@ -1,8 +1,9 @@
-ghost use Rattle.std.specs.Prelude.{◌≡◌, ◌+◌, ◌*◌, ◌/◌, ◌%◌, ◌<◌, ◌≤◌, max, true, IfSome};
+ghost use Rattle.std.specs.Prelude.{◌+◌, ◌/◌, ◌%◌, ◌<◌, ◌≡◌, ◌*◌, ◌≤◌, max, true, IfSome};
 ghost use Rattle.reading.specs.Bytes.{bit};
 ghost use Rattle.inspection.specs.Places.{Stands};
 ghost use Rattle.inspection.specs.Sources.{state_of};
 
+use reading::bytes::has_bit;
 use reading::records::Position;
 
 /// What a byte of a machine sheet behind its fields belongs to.
@@ -21,7 +22,7 @@ struct Cell {
 }
 
 impl Cell {
-    /// The cell of an entry by its index; to count no columns as one keeps the division total.
+    /// The cell of an entry by its index; no columns count as one, so that the division is defined.
     fn of(i: u16, columns: u8) -> Cell
         ensures row { result.row ≡ i / max columns 1 }
         ensures whole { 1 ≤ columns → result.row * columns + result.column ≡ i }
@@ -122,5 +123,5 @@ pub(crate) fn marked_state(byte: u8, place: u16, low: u16) -> Option<u16>
     ensures { IfSome result (λ s. (low ≤ s) × (s / 8 ≡ place % 32) × (bit byte (s % 8) ≡ true)) }
 {
     let first = 8 * (place % 32);
-    (first..first + 8).find(|&state| low <= state && (byte >> (state % 8)) % 2 == 1)
+    (first..first + 8).find(|&state| low <= state && has_bit(byte, (state % 8) as u8))
 }

@@ -1,4 +1,4 @@
-ghost use Rattle.std.specs.Prelude.{◌≡◌, IfOk, string_bytes};
+ghost use Rattle.std.specs.Prelude.{IfOk, string_bytes};
 ghost use Rattle.reading.specs.Faults.{numbers};
 ghost use Rattle.inspection.specs.Refusals.{Refuses};
 

@@ -6,6 +6,7 @@ ghost use Rattle.inspection.specs.Refusals.{sheet_fault, Tells};
 use crate::kinds::Kind;
 use crate::refusals::{Sentence, refusal};
 use crate::{machine, marks, phases, records, rule};
+use reading::bytes::length_place;
 use reading::faults::ReadFault;
 use reading::machine_sheet::MachineSheet;
 use reading::mark_sheet::MarkSheet;
@@ -43,8 +44,7 @@ impl<'a> Sheet<'a> {
         ensures { told result ≡ sheet_fault kind bytes.now }
     {
         if bytes.len() > LIMIT {
-            let len = u16::try_from(bytes.len()).unwrap_or(u16::MAX);
-            return Err(ReadFault::Size(len));
+            return Err(ReadFault::Size(length_place(bytes)));
         }
         Ok(match kind {
             Kind::Machine => Sheet::Machine(MachineSheet::read(bytes)?),

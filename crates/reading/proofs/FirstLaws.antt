@@ -103,16 +103,9 @@ pub none_test : (n : ℕ) (f : ℕ → Bool) → ((k : ℕ) → k < n → f k �
 none_test zero f h = refl
 none_test (suc n) f h = or_from _ _ (none_test n f (λ k l. h k (omega arith))) (h n (omega arith))
 
-pub tests_more : (i : ℕ) (f : ℕ → Bool) → some_below i f ≡ false → f i ≡ false → some_below (i + 1) f ≡ false
-tests_more i f e h = rw (add-one, e) h
-
 -- the end of a loop
 pub none_end : {A : Type 0} (i n : ℕ) (f : ℕ → Option A) → n ≤ i → first_below i f ≡ None → None ≡ first_below n f
 none_end i n f l e = sym (below_none n f (λ k h. none_below i f e k (omega arith)))
-
--- one more turn of a loop that looks for the largest
-pub highest_more : (i : ℕ) (f : ℕ → ℕ) (b x r : ℕ) → b ≡ highest_below i f → x ≡ f i → r ≡ max b x → r ≡ highest_below (i + 1) f
-highest_more i f b x r e h m = rw add-one (omega arith)
 
 -- the largest is above each, and one of them
 pub highest_over : (n : ℕ) (f : ℕ → ℕ) (k : ℕ) → k < n → f k ≤ highest_below n f

@@ -1,4 +1,4 @@
-ghost use Rattle.std.specs.Prelude.{◌≡◌, ◌+◌, ◌*◌, ◌^◌, ◌<◌, ◌≤◌, ◌&&◌, min, ◌++◌, length, drop, nat_lt};
+ghost use Rattle.std.specs.Prelude.{◌^◌, ◌≡◌, ◌≤◌, ◌&&◌, ◌++◌, length, drop, nat_lt};
 ghost use Rattle.reading.specs.Bytes.{byte, pair, bit};
 ghost use Rattle.reading.specs.Faults.{length_place};
 
@@ -17,14 +17,14 @@ pub(crate) fn pair_at(bytes: &[u8], i: usize) -> u16
 }
 
 /// The length as a place: at most 65,535.
-pub(crate) fn length_place(bytes: &[u8]) -> u16
+pub fn length_place(bytes: &[u8]) -> u16
     ensures { result ≡ length_place bytes.now }
 {
     u16::try_from(bytes.len()).unwrap_or(u16::MAX)
 }
 
 /// Whether a byte has a bit; there are eight.
-pub(crate) fn has_bit(x: u8, i: u8) -> bool
+pub fn has_bit(x: u8, i: u8) -> bool
     ensures { result ≡ (nat_lt i 8 && bit x i) }
 {
     i < 8 && (x >> i) % 2 == 1
@@ -37,7 +37,7 @@ pub(crate) fn fits(x: u8, room: u16) -> bool
     room >= 8 || x >> room == 0
 }
 
-/// Copies bytes to the front of a buffer of a fixed size: what is read is held without a heap.
+/// Copies bytes to the front of a buffer.
 pub(crate) fn put_front(buffer: &mut [u8], part: &[u8])
     requires { length part.now ≤ length buffer.old }
     ensures { buffer.new ≡ part.now ++ drop (length part.now) buffer.old }

@@ -1,6 +1,6 @@
 mod read;
 
-ghost use Rattle.std.specs.Prelude.{◌≡◌, ◌*◌, ◌<◌, ◌≤◌, length};
+ghost use Rattle.std.specs.Prelude.{◌*◌, ◌<◌, ◌≡◌, ◌≤◌, length};
 
 /// How large a machine is, and where it starts.
 #[derive(Clone, Copy, PartialEq, Eq, Debug)]
@@ -21,8 +21,8 @@ pub struct Frame {
 /// A machine sheet that was read: its sizes, and the parts of the bytes that hold labels, keys and targets.
 #[derive(Clone, Copy)]
 pub struct MachineSheet<'a> {
-    pub frame: Frame,
-    pub moves: u16,
+    frame: Frame,
+    moves: u16,
     // parallel parts, as the format has them: the sheet copies nothing
     labels: &'a [u8],
     keys: &'a [u8],
@@ -42,6 +42,20 @@ pub struct Move {
 }
 
 impl<'a> MachineSheet<'a> {
+    /// How large the machine is, and where it starts.
+    pub fn frame(&self) -> Frame
+        ensures { result ≡ self.now.frame }
+    {
+        self.frame
+    }
+
+    /// How many moves the sheet lists.
+    pub fn moves(&self) -> u16
+        ensures { result ≡ self.now.moves }
+    {
+        self.moves
+    }
+
     /// The very part of the bytes that holds the labels, one byte a state.
     pub fn labels(&self) -> &'a [u8]
         ensures { result ≡ self.now.labels }

@@ -2,10 +2,10 @@ mod read;
 
 ghost use Rattle.std.specs.Prelude.{◌≡◌};
 
-/// Stands for no choice in a record. It stays a number, since no machine moves under it: as an `Option` each test would undo it.
+/// No choice, as the format writes it.
 pub const NO_CHOICE: u8 = 255;
 
-/// Stands for no rank in a record. It stays a number, since it is above every kept rank, as the rules compare them.
+/// No rank, as the format writes it.
 pub const NO_RANK: u16 = 65_535;
 
 /// A controller record that was read: its sizes, and the parts of the bytes that hold choices and ranks.

@@ -1,6 +1,6 @@
 mod read;
 
-ghost use Rattle.std.specs.Prelude.{◌≡◌, ◌^◌, ◌<◌, ◌≤◌};
+ghost use Rattle.std.specs.Prelude.{◌^◌, ◌<◌, ◌≡◌, ◌≤◌};
 ghost use Rattle.reading.specs.Limits.{AllBelow};
 
 /// A rule sheet that was read: a deterministic Büchi automaton over labels, and the labels that are forbidden.

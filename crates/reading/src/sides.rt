@@ -2,7 +2,7 @@ ghost use Rattle.std.specs.Prelude.{◌≡◌};
 ghost use Rattle.reading.specs.Sides.{pick};
 
 /// A value for each of the two sides of a bay: the first is side 0's, the second side 1's.
-/// A side stays a number in what asks for one: callers may hand in any, and an enum would ask more of them.
+/// A side is a number: 0, or any other for side 1.
 #[derive(Clone, Copy, PartialEq, Eq, Debug)]
 pub struct Sides<T> {
     pub first: T,

@@ -24,9 +24,9 @@ impl Sizes {
         ensures first { told result ≡ field_fault phases signals0 signals1 }
         ensures value { IfOk result (λ s. (s.phases ≡ phases) × (s.signals.first ≡ signals0) × (s.signals.second ≡ signals1)) }
     {
-        check(1 <= phases && phases <= 8, ReadFault::Field(0))?;
-        check(1 <= signals0 && signals0 <= 4, ReadFault::Field(1))?;
-        check(1 <= signals1 && signals1 <= 4, ReadFault::Field(2))?;
+        check((1..=8).contains(&phases), ReadFault::Field(0))?;
+        check((1..=4).contains(&signals0), ReadFault::Field(1))?;
+        check((1..=4).contains(&signals1), ReadFault::Field(2))?;
         let signals = Sides {
             first: signals0,
             second: signals1,

@@ -103,12 +103,12 @@ fn machine_says(rt: HostRuntime) -> Result<(), Fail> {
     let Ok(sheet) = MachineSheet::read(&TOGGLE) else {
         return Err(Fail::new("refused"));
     };
-    let frame = sheet.frame;
+    let frame = sheet.frame();
     assert_eq!(rt;
         (frame.states, frame.own, frame.partner, frame.start),
         (2, 2, 2, 0)
     );
-    assert_eq!(rt; sheet.moves, 8);
+    assert_eq!(rt; sheet.moves(), 8);
     assert_eq!(rt; (sheet.label(0), sheet.label(1), sheet.label(2)), (0, 1, 0));
     assert_eq!(rt; (sheet.entry(3).key, sheet.entry(3).target), (3, 1));
     assert_eq!(rt; (sheet.entry(8).key, sheet.entry(8).target), (0, 0));

@@ -1,4 +1,4 @@
-ghost use Rattle.std.specs.Prelude.{◌≡◌, ◌+◌, ◌*◌, ◌<◌, slice_index_or, slice_set};
+ghost use Rattle.std.specs.Prelude.{◌+◌, ◌*◌, ◌<◌, ◌≡◌, slice_index_or, slice_set};
 ghost use Rattle.checking.specs.Solving.{absent};
 
 use crate::ranking::{ABSENT, Entry, Ranking};

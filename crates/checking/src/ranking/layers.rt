@@ -1,4 +1,4 @@
-ghost use Rattle.std.specs.Prelude.{◌≡◌, ℕ, ◌+◌, ◌<◌, false, MatchOption};
+ghost use Rattle.std.specs.Prelude.{◌+◌, ◌<◌, ◌≡◌, false, MatchOption};
 ghost use Rattle.checking.specs.Snapshots.{played};
 ghost use Rattle.checking.specs.Solving.{zeros, Attracted, Layers, Inside, Joining, Barred};
 
@@ -31,7 +31,7 @@ impl Ranking {
         ensures stops { result ≡ false → Layers (played seat.now) self.new depth (depth + 1) }
         ensures zeros { zeros self.new ≡ zeros self.old }
     {
-        // what joins this layer leads to no position of this layer
+        // a copy: positions of this layer lead into the layers below, not into each other
         let mut next = self.ranked;
         for phase in 0..seat.table.phases() {
             for state in 0..seat.game.states() {

@@ -1,4 +1,4 @@
-ghost use Rattle.std.specs.Prelude.{◌≡◌, ◌<◌, ◌≤◌, true, false, Decides};
+ghost use Rattle.std.specs.Prelude.{◌<◌, ◌≡◌, ◌≤◌, true, false, Decides};
 ghost use Rattle.checking.specs.Snapshots.{played};
 ghost use Rattle.checking.specs.Solving.{ranks_in, choices_in, zeros, Attracted, Inside, Least, Stable, Target, Renewed};
 
@@ -68,7 +68,7 @@ impl Ranking {
         ensures fewer { result ≡ true → zeros self.new < zeros self.old }
         ensures stable { result ≡ false → Stable (played seat.now) (ranks_in (played seat.now) self.new) (choices_in (played seat.now) self.new) }
     {
-        // every target is renewed, so no chain that stops at the first that is given up
+        // `any` would stop at the first target given up, and each must be renewed
         let mut pruned = false;
         for phase in 0..seat.table.phases() {
             for state in 0..seat.game.states() {

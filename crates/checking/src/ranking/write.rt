@@ -1,4 +1,4 @@
-ghost use Rattle.std.specs.Prelude.{◌≡◌, ℕ, ◌+◌, ◌*◌, ◌<◌, ◌≤◌, length, ◌≢◌};
+ghost use Rattle.std.specs.Prelude.{◌+◌, ◌*◌, ◌<◌, ◌≡◌, ℕ, length, ◌≢◌};
 ghost use Rattle.reading.specs.Bytes.{byte, pair};
 ghost use Rattle.checking.specs.declared.ranking.Entry.{Entry};
 ghost use Rattle.checking.specs.Snapshots.{played};

@@ -1,4 +1,4 @@
-ghost use Rattle.std.specs.Prelude.{◌≡◌, ◌<◌};
+ghost use Rattle.std.specs.Prelude.{◌≡◌};
 ghost use Rattle.reading.specs.Firsts.{some_below};
 ghost use Rattle.checking.specs.Arenas.{promised, relied, follow, suits};
 
@@ -13,7 +13,7 @@ impl<G> Seat<'_, G> {
         self.deal.promises(self.side, phase, signal)
     }
 
-    /// Whether the side relies on a signal of its partner in a phase. It stands beside `promised` so that checks read as the rules do.
+    /// Whether the side relies on a signal of its partner in a phase.
     pub(crate) fn relied(&self, phase: u8, signal: u8) -> bool
         ensures { result ≡ relied self.now.deal.now self.now.side phase signal }
     {

@@ -1,4 +1,4 @@
-ghost use Rattle.std.specs.Prelude.{◌≡◌, ℕ, ◌<◌, ◌≤◌, length, Decides, MatchOption};
+ghost use Rattle.std.specs.Prelude.{ℕ, Decides, MatchOption};
 ghost use Rattle.checking.specs.Snapshots.{played};
 ghost use Rattle.checking.specs.Solving.{Answered, Leading, First};
 

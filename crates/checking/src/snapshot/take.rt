@@ -1,4 +1,4 @@
-ghost use Rattle.std.specs.Prelude.{◌≡◌, ℕ, ◌<◌, vec_len};
+ghost use Rattle.std.specs.Prelude.{◌<◌, ◌≡◌, ℕ, vec_len};
 ghost use Rattle.checking.specs.StateSets.{member};
 ghost use Rattle.checking.specs.Snapshots.{row_of, Taken};
 

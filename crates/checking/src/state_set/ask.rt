@@ -1,4 +1,4 @@
-ghost use Rattle.std.specs.Prelude.{◌≡◌, ℕ, ◌-◌, ◌^◌, ◌<◌, ◌≤◌, true, false, ◌||◌, Decides, ◌==◌};
+ghost use Rattle.std.specs.Prelude.{◌<◌, ◌≡◌, ℕ, ◌≤◌, true, false, ◌||◌, Decides, ◌==◌};
 ghost use Rattle.checking.specs.StateSets.{member, nothing};
 
 use crate::state_set::StateSet;

@@ -1,4 +1,4 @@
-ghost use Rattle.std.specs.Prelude.{◌≡◌, ◌<◌, true};
+ghost use Rattle.std.specs.Prelude.{◌<◌, ◌≡◌, true};
 ghost use Rattle.reading.specs.Sides.{pick};
 ghost use Rattle.games.specs.Sets.{width, has};
 
@@ -51,7 +51,6 @@ impl Deal {
     }
 
     /// Whether a side relies on a signal of its partner in a phase; out of range it does not.
-    /// It differs from `promises` in the set and in whose signals these are: one function for both would be no shorter.
     pub fn relies(&self, side: u8, phase: u8, signal: u8) -> bool
         ensures value { result ≡ has width (pick side self.now.terms.first.reliance self.now.terms.second.reliance) phase signal }
         ensures inside { result ≡ true → (phase < self.now.sizes.phases) × (signal < pick side self.now.sizes.signals.second self.now.sizes.signals.first) }

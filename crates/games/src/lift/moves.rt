@@ -1,4 +1,4 @@
-ghost use Rattle.std.specs.Prelude.{◌≡◌, ◌*◌, ◌<◌, is_ok, IfOk, Decides, OnOk};
+ghost use Rattle.std.specs.Prelude.{◌*◌, ◌≡◌, is_ok, IfOk, Decides, OnOk};
 ghost use Rattle.reading.specs.Faults.{told};
 ghost use Rattle.games.specs.Machines.{in_range};
 ghost use Rattle.games.specs.Lifts.{lift, rises, sinks, flips, lift_fault, Sizes, Steps};
@@ -13,18 +13,20 @@ const START: u16 = 0;
 
 /// One floor up; an empty lift may also coast up two.
 fn goes_up(state: u16, next: u16) -> bool
-    requires { state < 64 }
     ensures { result ≡ rises state next }
 {
-    next == state + 2 || state % 2 == 0 && next == state + 4
+    match next.checked_sub(state) {
+        Some(2) => true,
+        Some(4) => state % 2 == 0,
+        _ => false,
+    }
 }
 
 /// One floor down.
 fn goes_down(state: u16, next: u16) -> bool
-    requires { next < 64 }
     ensures { result ≡ sinks state next }
 {
-    state == next + 2
+    state.checked_sub(next) == Some(2)
 }
 
 impl Lift {
@@ -35,8 +37,8 @@ impl Lift {
         ensures sizes { Decides (is_ok result) (Sizes floors signals) }
         ensures steps { OnOk result (Steps floors signals) }
     {
-        check(2 <= floors && floors <= 32, ReadFault::Field(0))?;
-        check(2 <= signals && signals <= 4, ReadFault::Field(1))?;
+        check((2..=32).contains(&floors), ReadFault::Field(0))?;
+        check((2..=4).contains(&signals), ReadFault::Field(1))?;
         Ok(Lift { floors, signals })
     }
 
@@ -50,10 +52,9 @@ impl Lift {
 
     /// The other load on the same floor, at one of the two ends.
     fn flips(&self, state: u16, next: u16) -> bool
-        requires { state < 64 }
         ensures { result ≡ flips self.now.floors state next }
     {
-        let at_end = state < 2 || state + 2 >= self.states();
+        let at_end = state < 2 || state >= self.states() - 2;
         at_end && state / 2 == next / 2 && state != next
     }
 }
@@ -95,7 +96,7 @@ impl Machine for Lift {
         if !self.in_range(state, own, partner, next) {
             return false;
         }
-        // own signals are numbers at every machine, and no other function names these four
+        // own signals are numbers at every machine; these four have no other use
         match own {
             0 => next == state,
             1 => goes_up(state, next),

@@ -27,7 +27,7 @@ fn copy_moves(moves: &mut Vec<Move>, sheet: &MachineSheet)
     ensures room { vec_capacity moves.old ≤ vec_capacity moves.new }
 {
     moves.clear();
-    for i in 0..sheet.moves {
+    for i in 0..sheet.moves() {
         moves.push_reserved(sheet.entry(i));
     }
 }
@@ -62,7 +62,7 @@ impl SheetMachine {
         let sheet = MachineSheet::read(bytes)?;
         copy_labels(&mut self.labels, sheet.labels());
         copy_moves(&mut self.moves, &sheet);
-        self.frame = sheet.frame;
+        self.frame = sheet.frame();
         Ok(())
     }
 }

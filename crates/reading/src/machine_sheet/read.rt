@@ -1,8 +1,8 @@
-ghost use Rattle.std.specs.Prelude.{◌≡◌, ◌+◌, ◌-◌, ◌*◌, ◌<◌, ◌≤◌, true, length, is_ok, IfOk, Some, None, Decides, MatchResult};
+ghost use Rattle.std.specs.Prelude.{◌<◌, ◌≡◌, is_ok, IfOk, Some, Decides, MatchResult};
 ghost use Rattle.reading.specs.Firsts.{first_below};
 ghost use Rattle.reading.specs.Bytes.{byte};
 ghost use Rattle.reading.specs.Faults.{numbers, told};
-ghost use Rattle.reading.specs.MachineSheets.{sheet_in, sheet_of, key_at, target_at, before, field_fault, move_fault, head_fault, machine_fault, Headed, Lawful};
+ghost use Rattle.reading.specs.MachineSheets.{sheet_in, sheet_of, key_at, target_at, field_fault, move_fault, head_fault, machine_fault, Headed, Lawful};
 
 use crate::bytes::{byte_at, length_place, pair_at};
 use crate::entries::check_entries;
@@ -15,9 +15,9 @@ impl Frame {
         ensures first { told result ≡ field_fault states own partner start moves }
         ensures value { IfOk result (λ f. (f.states ≡ states) × (f.own ≡ own) × (f.partner ≡ partner) × (f.start ≡ start)) }
     {
-        check(1 <= states && states <= 256, ReadFault::Field(0))?;
-        check(1 <= own && own <= 4, ReadFault::Field(2))?;
-        check(1 <= partner && partner <= 4, ReadFault::Field(3))?;
+        check((1..=256).contains(&states), ReadFault::Field(0))?;
+        check((1..=4).contains(&own), ReadFault::Field(2))?;
+        check((1..=4).contains(&partner), ReadFault::Field(3))?;
         check(start < states, ReadFault::Field(4))?;
         check(moves <= 4096, ReadFault::Field(6))?;
         Ok(Frame {
@@ -85,7 +85,7 @@ impl<'a> MachineSheet<'a> {
         }
     }
 
-    /// What is wrong with a move first: its key, its target, its order.
+    /// Checks a move: its key, its target, its order.
     fn check_move(&self, i: u16) -> Result<(), ReadFault>
         requires { i < self.now.moves }
         ensures { told result ≡ move_fault (sheet_of self.now) i }
@@ -106,7 +106,7 @@ impl<'a> MachineSheet<'a> {
         check(ascends, ReadFault::Order(key_place))
     }
 
-    /// The first fault of the moves.
+    /// Checks move by move.
     fn check_moves(&self) -> Result<(), ReadFault>
         ensures { told result ≡ first_below self.now.moves (move_fault (sheet_of self.now)) }
     {

@@ -1,4 +1,4 @@
-ghost use Rattle.std.specs.Prelude.{◌≡◌, ◌-◌, ◌*◌, ◌%◌, ◌^◌, ◌<◌, length, is_ok, IfOk, Decides, nat_lt};
+ghost use Rattle.std.specs.Prelude.{◌*◌, ◌%◌, ◌^◌, ◌≡◌, ◌-◌, length, is_ok, IfOk, Decides, nat_lt};
 ghost use Rattle.reading.specs.Firsts.{first_below};
 ghost use Rattle.reading.specs.Faults.{told};
 ghost use Rattle.reading.specs.Marks.{marked};

@@ -1,4 +1,4 @@
-ghost use Rattle.std.specs.Prelude.{◌≡◌, ◌+◌, ◌*◌, ◌^◌, ◌<◌, ◌≤◌, length, is_ok, IfOk, Decides};
+ghost use Rattle.std.specs.Prelude.{◌+◌, ◌*◌, ◌^◌, ◌<◌, ◌≡◌, ◌≤◌, length, is_ok, IfOk, Decides};
 ghost use Rattle.reading.specs.Firsts.{first_below};
 ghost use Rattle.reading.specs.Faults.{told};
 ghost use Rattle.reading.specs.Records.{parts_in, parts_of, inside, choice_at, rank_at, kept_rank, bound_of, field_fault, choice_fault, record_fault, Lawful};
@@ -11,9 +11,9 @@ use crate::records::{NO_CHOICE, NO_RANK, Position, Record};
 fn check_fields(states: u16, phases: u8, signals: u8) -> Result<(), ReadFault>
     ensures { told result ≡ field_fault states phases signals }
 {
-    check(1 <= states && states <= 256, ReadFault::Field(0))?;
-    check(1 <= phases && phases <= 8, ReadFault::Field(2))?;
-    check(1 <= signals && signals <= 4, ReadFault::Field(3))
+    check((1..=256).contains(&states), ReadFault::Field(0))?;
+    check((1..=8).contains(&phases), ReadFault::Field(2))?;
+    check((1..=4).contains(&signals), ReadFault::Field(3))
 }
 
 /// The first choice that is no signal and not absent is a fault.

@@ -11,7 +11,7 @@ use crate::rule_sheet::RuleSheet;
 fn check_fields(states: u8, accepting: u8, start: u8) -> Result<(), ReadFault>
     ensures { told result ≡ field_fault states accepting start }
 {
-    check(1 <= states && states <= 8, ReadFault::Field(0))?;
+    check((1..=8).contains(&states), ReadFault::Field(0))?;
     check(fits(accepting, u16::from(states)), ReadFault::Field(1))?;
     check(start < states, ReadFault::Field(3))
 }

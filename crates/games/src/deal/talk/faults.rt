@@ -26,7 +26,7 @@ impl TalkFault {
         }
     }
 
-    /// The phase that it is about; 65,535 where there is none: a refusal is published in numbers.
+    /// The phase that it is about; 65,535 where there is none.
     pub fn phase(&self) -> u16
         ensures { result ≡ (numbers self.now).phase }
     {

@@ -1,4 +1,4 @@
-ghost use Rattle.std.specs.Prelude.{◌≡◌, ◌<◌, ◌≤◌, Ok, is_ok, Decides, MatchResult};
+ghost use Rattle.std.specs.Prelude.{◌≡◌, is_ok, Decides, MatchResult};
 ghost use Rattle.games.specs.Terms.{AreTerms};
 ghost use Rattle.games.specs.Deals.{told, told_gap, terms_fault, gap_at, first_gap, Agree, Bidden, Replied, Signed};
 
@@ -8,10 +8,11 @@ use crate::sets::inside;
 use reading::phase_table::PhaseTable;
 use reading::sides::Sides;
 
-/// Who promises too much in a phase, side 0 before side 1.
-fn check_phase(first: &Terms, second: &Terms, phase: u8) -> Result<(), TalkFault>
-    ensures { told_gap result ≡ gap_at first.now second.now phase }
+/// Checks that neither side promises too much in a phase, side 0 first.
+fn check_phase(terms: &Sides<Terms>, phase: u8) -> Result<(), TalkFault>
+    ensures { told_gap result ≡ gap_at terms.now.first terms.now.second phase }
 {
+    let Sides { first, second } = terms;
     if !inside(first.promise, second.reliance, phase) {
         return Err(TalkFault::TooFar { phase, side: 0 });
     }
@@ -21,17 +22,18 @@ fn check_phase(first: &Terms, second: &Terms, phase: u8) -> Result<(), TalkFault
     Ok(())
 }
 
-/// Who promises too much first: the lowest phase, then side 0 before side 1.
-fn check_gaps(first: &Terms, second: &Terms, phases: u8) -> Result<(), TalkFault>
-    ensures first { told_gap result ≡ first_gap phases first.now second.now }
-    ensures words { Decides (is_ok result) (Agree phases first.now second.now) }
+/// Checks phase by phase that neither side promises too much.
+fn check_gaps(terms: &Sides<Terms>, phases: u8) -> Result<(), TalkFault>
+    ensures first { told_gap result ≡ first_gap phases terms.now.first terms.now.second }
+    ensures words { Decides (is_ok result) (Agree phases terms.now.first terms.now.second) }
 {
     for phase in 0..phases {
-        check_phase(first, second, phase)?;
+        check_phase(terms, phase)?;
     }
     Ok(())
 }
 
+// Each step is a type of its own, with a `close` of its own: no step can be taken twice or out of turn.
 impl Talk {
     /// A talk on a table's sizes.
     pub fn open(table: &PhaseTable) -> Talk
@@ -60,7 +62,6 @@ impl Talk {
     }
 }
 
-// Each step has a `close` of its own, since each is a type of its own: no step can be taken twice or out of turn.
 impl Bid {
     /// Side 1 replies with its own terms; refused, the bid stands as it was.
     pub fn reply(self, terms: Terms) -> Result<Reply, (Bid, TalkFault)>
@@ -90,11 +91,11 @@ impl Reply {
     {
         let Reply { bid, terms: second } = self;
         let Bid { talk, terms: first } = bid;
-        if let Err(fault) = check_gaps(&first, &second, talk.sizes.phases) {
+        let terms = Sides { first, second };
+        if let Err(fault) = check_gaps(&terms, talk.sizes.phases) {
             return Err((talk, fault));
         }
         let Talk { sizes } = talk;
-        let terms = Sides { first, second };
         Ok(Deal { sizes, terms })
     }
 

@@ -1,23 +1,11 @@
-use games::machine::Machine;
 use reading::machine_sheet::Frame;
 use std::fmt;
 
 /// What any machine's text begins with.
 #[derive(Clone, Copy)]
-pub(crate) struct Sizes(pub Frame);
+pub(crate) struct FrameWords(pub Frame);
 
-impl Sizes {
-    pub(crate) fn of<M: Machine>(machine: &M) -> Sizes {
-        Sizes(Frame {
-            states: machine.states(),
-            own: machine.own(),
-            partner: machine.partner(),
-            start: machine.start(),
-        })
-    }
-}
-
-impl fmt::Display for Sizes {
+impl fmt::Display for FrameWords {
     fn fmt<W: fmt::Write>(&self, f: &mut fmt::Formatter<W>) -> fmt::Result {
         let Frame {
             states,
