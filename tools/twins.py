@@ -8,7 +8,7 @@ import re
 import subprocess
 import sys
 
-SHORTEST = 12  # tokens; a shorter body has nothing to share
+SHORTEST = 8  # tokens; a shorter body has nothing to share
 
 
 def sources(commit):

@@ -34,8 +34,8 @@ pub snap_bounded : (z : Snapshot) (t : PhaseTable) (d : Deal) (side : ℕ) → B
 snap_bounded z t d side = record {
   some_phase = omega (arith, t.sizes.some_phases);
   few_phases = t.sizes.few_phases;
-  few_states = z.few_states;
-  starts = z.starts;
+  few_states = z.frame.few_states;
+  starts = z.frame.starts;
   follows = follow_low t side;
   relies = λ p b e. has_low width (pick side d.terms.first.reliance d.terms.second.reliance) p b e;
   promises = λ p x e. has_low width (pick side d.terms.first.promise d.terms.second.promise) p x e;

@@ -83,10 +83,10 @@ same_arena m k z t d side w =
       forbidden = forbidden;
       goal = goal;
     } in
-    ap (λ mv. f mv (snap_forbidden z) (snap_goal z) z.states z.own z.partner z.start) (fun_ext (λ s. fun_ext (λ x. fun_ext (λ b. fun_ext (w.moves s x b)))))
-    ∙ ap (λ fb. f m.move fb (snap_goal z) z.states z.own z.partner z.start) (fun_ext w.forbidden)
-    ∙ ap (λ g. f m.move (forbidden_in m k) g z.states z.own z.partner z.start) (fun_ext w.goals)
-    ∙ ap (λ n. f m.move (forbidden_in m k) (goal_in m k) n z.own z.partner z.start) w.states
-    ∙ ap (λ n. f m.move (forbidden_in m k) (goal_in m k) m.states n z.partner z.start) w.own
-    ∙ ap (λ n. f m.move (forbidden_in m k) (goal_in m k) m.states m.own n z.start) w.partner
+    ap (λ mv. f mv (snap_forbidden z) (snap_goal z) z.frame.states z.frame.own z.frame.partner z.frame.start) (fun_ext (λ s. fun_ext (λ x. fun_ext (λ b. fun_ext (w.moves s x b)))))
+    ∙ ap (λ fb. f m.move fb (snap_goal z) z.frame.states z.frame.own z.frame.partner z.frame.start) (fun_ext w.forbidden)
+    ∙ ap (λ g. f m.move (forbidden_in m k) g z.frame.states z.frame.own z.frame.partner z.frame.start) (fun_ext w.goals)
+    ∙ ap (λ n. f m.move (forbidden_in m k) (goal_in m k) n z.frame.own z.frame.partner z.frame.start) w.states
+    ∙ ap (λ n. f m.move (forbidden_in m k) (goal_in m k) m.states n z.frame.partner z.frame.start) w.own
+    ∙ ap (λ n. f m.move (forbidden_in m k) (goal_in m k) m.states m.own n z.frame.start) w.partner
     ∙ ap (λ n. f m.move (forbidden_in m k) (goal_in m k) m.states m.own m.partner n) w.start

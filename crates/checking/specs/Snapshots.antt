@@ -26,20 +26,20 @@ set_goal n set s = nat_lt s n && member set s
 
 -- a move, a forbidden state and a goal, as the snapshot has them
 abbrev pub snap_move : Snapshot → ℕ → ℕ → ℕ → ℕ → Bool
-snap_move z = rows_move z.states (vec_items z.rows)
+snap_move z = rows_move z.frame.states (vec_items z.rows)
 
 abbrev pub snap_forbidden : Snapshot → ℕ → Bool
-snap_forbidden z = set_forbidden z.states z.forbidden
+snap_forbidden z = set_forbidden z.frame.states z.forbidden
 
 abbrev pub snap_goal : Snapshot → ℕ → Bool
-snap_goal z = set_goal z.states z.goals
+snap_goal z = set_goal z.frame.states z.goals
 
 -- a snapshot is taken of a game
 pub record Taken (m : Model) (k : Marks) (z : Snapshot) : Type 0 where
-  pub states : z.states ≡ m.states
-  pub own : z.own ≡ m.own
-  pub partner : z.partner ≡ m.partner
-  pub start : z.start ≡ m.start
+  pub states : z.frame.states ≡ m.states
+  pub own : z.frame.own ≡ m.own
+  pub partner : z.frame.partner ≡ m.partner
+  pub start : z.frame.start ≡ m.start
   pub moves : (s x b t : ℕ) → snap_move z s x b t ≡ m.move s x b t
   pub forbidden : (s : ℕ) → snap_forbidden z s ≡ forbidden_in m k s
   pub goals : (s : ℕ) → snap_goal z s ≡ goal_in m k s
@@ -47,11 +47,11 @@ pub record Taken (m : Model) (k : Marks) (z : Snapshot) : Type 0 where
 -- what a side plays with a snapshot, under a table and a deal
 abbrev pub snap_arena : Snapshot → PhaseTable → Deal → ℕ → Arena
 snap_arena z t d side = record {
-  states = z.states;
+  states = z.frame.states;
   phases = t.sizes.phases;
-  start = z.start;
-  own = z.own;
-  partner = z.partner;
+  start = z.frame.start;
+  own = z.frame.own;
+  partner = z.frame.partner;
   promised = promised d side;
   relied = relied d side;
   follow = follow t side;

@@ -4,6 +4,7 @@ mod take;
 ghost use Rattle.std.specs.Prelude.{◌<◌, ◌+◌, ◌*◌, ◌≡◌, ◌≤◌, vec_len};
 
 use crate::state_set::StateSet;
+use reading::machine_sheet::Frame;
 
 /// How many signals there can be.
 pub(crate) const SIGNALS: u8 = 4;
@@ -11,15 +12,10 @@ pub(crate) const SIGNALS: u8 = 4;
 /// A game, asked once for all that a solver needs: for each state and both signals the set of next states.
 #[derive(Drop)]
 pub(crate) struct Snapshot {
-    states: u16,
-    own: u8,
-    partner: u8,
-    start: u16,
+    frame: Frame,
     rows: Vec<StateSet>,
     forbidden: StateSet,
     goals: StateSet,
-    ghost few_states: { states ≤ 256 },
-    ghost starts: { start < states },
     ghost rows_long: { vec_len rows ≡ 4096 },
 }
 

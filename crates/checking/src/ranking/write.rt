@@ -35,7 +35,7 @@ fn put_entry(buffer: &mut [u8], size: usize, place: usize, entry: Entry)
 impl Ranking {
     /// Writes the record that holds the ranks and choices.
     pub(crate) fn write(&self, seat: &Seat<'_, Snapshot>, buffer: &mut [u8])
-        requires { length buffer.old ≡ 4 + 3 * (seat.now.game.now.states * seat.now.table.now.sizes.phases) }
+        requires { length buffer.old ≡ 4 + 3 * (seat.now.game.now.frame.states * seat.now.table.now.sizes.phases) }
         ensures { Wrote (played seat.now) self.now buffer.new }
     {
         let states = seat.game.states();

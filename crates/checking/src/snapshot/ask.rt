@@ -8,30 +8,30 @@ use crate::state_set::StateSet;
 impl Snapshot {
     /// How many states there are.
     pub(crate) fn states(&self) -> u16
-        ensures { result ≡ self.now.states }
+        ensures { result ≡ self.now.frame.states }
     {
-        self.states
+        self.frame.states
     }
 
     /// How many signals the machine can show.
     pub(crate) fn own(&self) -> u8
-        ensures { result ≡ self.now.own }
+        ensures { result ≡ self.now.frame.own }
     {
-        self.own
+        self.frame.own
     }
 
     /// The state that it starts in.
     pub(crate) fn start(&self) -> u16
-        ensures { result ≡ self.now.start }
+        ensures { result ≡ self.now.frame.start }
     {
-        self.start
+        self.frame.start
     }
 
     /// The set of next states under two signals.
     pub(crate) fn row(&self, state: u16, own: u8, partner: u8) -> StateSet
         ensures { (t : ℕ) → member result t ≡ snap_move self.now state own partner t }
     {
-        if state < self.states && own < SIGNALS && partner < SIGNALS {
+        if state < self.frame.states && own < SIGNALS && partner < SIGNALS {
             self.rows[place(state, own, partner)]
         } else {
             StateSet::empty()
@@ -42,13 +42,13 @@ impl Snapshot {
     pub(crate) fn forbids(&self, state: u16) -> bool
         ensures { result ≡ snap_forbidden self.now state }
     {
-        state >= self.states || self.forbidden.contains(state)
+        state >= self.frame.states || self.forbidden.contains(state)
     }
 
     /// Whether a state is a goal.
     pub(crate) fn is_goal(&self, state: u16) -> bool
         ensures { result ≡ snap_goal self.now state }
     {
-        state < self.states && self.goals.contains(state)
+        state < self.frame.states && self.goals.contains(state)
     }
 }

@@ -4,7 +4,8 @@ ghost use Rattle.checking.specs.Snapshots.{row_of, Taken};
 
 use crate::snapshot::{SIGNALS, Snapshot, place};
 use crate::state_set::StateSet;
-use games::machine::{Game, Machine};
+use games::machine::{Game, Machine, frame};
+use reading::machine_sheet::Frame;
 use std::alloc::{AllocError, Global};
 
 /// The set of next states under two signals.
@@ -35,11 +36,14 @@ fn fill_rows<G: Machine>(game: &G, rows: &mut Vec<StateSet>)
 impl Snapshot {
     /// Room for the largest game.
     pub(crate) fn new(heap: Global) -> Result<Snapshot, AllocError> {
-        Ok(Snapshot {
+        let frame = Frame {
             states: 1,
             own: 1,
             partner: 1,
             start: 0,
+        };
+        Ok(Snapshot {
+            frame,
             rows: vec![in heap; StateSet::empty(); 4096]?,
             forbidden: StateSet::empty(),
             goals: StateSet::empty(),
@@ -53,9 +57,6 @@ impl Snapshot {
         fill_rows(game, &mut self.rows);
         self.forbidden = StateSet::of(game.states(), |state| game.forbidden(state));
         self.goals = StateSet::of(game.states(), |state| game.goal(state));
-        self.states = game.states();
-        self.start = game.start();
-        self.own = game.own();
-        self.partner = game.partner();
+        self.frame = frame(game);
     }
 }

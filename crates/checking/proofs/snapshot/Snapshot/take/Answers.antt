@@ -12,11 +12,11 @@ returns g c =
     let forbidden : (t : ℕ) → t < m.states → member c.of-self.result t ≡ forbidden_in m k t = λ t h. (let i = c.of-self.ensures.below t (omega (arith, h, c.states.ensures)) in search rules) in
     let goals : (t : ℕ) → t < m.states → member c.of-self-2.result t ≡ goal_in m k t = λ t h. (let i = c.of-self-2.ensures.below t (omega (arith, h, c.states-2.ensures)) in search rules) in
     record {
-      states = c.states-self.ensures;
-      own = c.own-self.ensures;
-      partner = c.partner-self.ensures;
-      start = c.start-self.ensures;
-      moves = moves_taken m w _ c.states-self.ensures _ c.fill_rows.ensures.rows;
-      forbidden = forbidden_taken m w _ c.states-self.ensures k _ forbidden;
-      goals = goals_taken m w _ c.states-self.ensures k _ goals;
+      states = c.frame-self.ensures.states;
+      own = c.frame-self.ensures.own;
+      partner = c.frame-self.ensures.partner;
+      start = c.frame-self.ensures.start;
+      moves = moves_taken m w _ c.frame-self.ensures.states _ c.fill_rows.ensures.rows;
+      forbidden = forbidden_taken m w _ c.frame-self.ensures.states k _ forbidden;
+      goals = goals_taken m w _ c.frame-self.ensures.states k _ goals;
     }
