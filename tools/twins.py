@@ -33,7 +33,7 @@ def functions(text):
             continue
         whole = text[found.end():ends.start()]
         opens = re.search(rf"^{indent}{{|{{$", whole, re.M)
-        if opens:
+        if opens and "fn " not in whole[:opens.start()]:
             yield found.group(2), whole[opens.end():]
 
 
