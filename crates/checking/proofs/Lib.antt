@@ -11,3 +11,4 @@ pub mod WriteLaws
 pub mod SolutionLaws
 pub mod UniqueLaws
 pub mod SolveLaws
+pub mod MarkLaws

@@ -1,0 +1,109 @@
+-- Laws of marks: what a mark keeps, and what they tell where no place waits.
+use Rattle.std.proofs.Common.{◌≡◌, ℕ, zero, suc, ◌+◌, ◌*◌, ◌/◌, ◌%◌, ◌<◌, ◌≤◌, true, ◌≢◌, ◌⊎◌, List, length, get_or, set, replicate, sum_by, sym, refl, ap, ◌∙◌, subst, inl, inr, arith, get_or-set_other, get_or-set_same, mul_comm}
+use Rattle.std.proofs.lemmas.List.{get_or_past, get_or-replicate}
+use Rattle.std.proofs.lemmas.List.Sums.{sum_by-set}
+use Rattle.std.proofs.lemmas.Bool.{cases_lt, cases_eq}
+use Rattle.std.proofs.lemmas.Nat.{mul-add-lt, div-mul-add, mod-mul-add}
+use Rattle.reading.specs.Bytes.{byte}
+use Rattle.reading.specs.declared.phase_table.PhaseTable.{PhaseTable}
+use Rattle.games.specs.declared.deal.Deal.{Deal}
+use Rattle.games.specs.Machines.{Model, Lawful}
+use Rattle.checking.specs.Arenas.{promised, relied, follow}
+use Rattle.checking.specs.Reach.Reached.{step}
+use Rattle.checking.specs.Reach.{Reached, places, Tells, Reach}
+use Rattle.checking.specs.Marking.{left, all_left, Marked, ReachedAt, Moved, Followed, Idle, Marking}
+use Rattle.checking.proofs.PlayLaws.{follow_low}
+
+-- no place below k waits
+abbrev pub IdleBelow : List ℕ → ℕ → Type 0
+IdleBelow xs k = (i : ℕ) → i < k → byte xs i ≢ 2
+
+pub idle_next : (xs : List ℕ) (k : ℕ) → IdleBelow xs k → byte xs k ≢ 2 → IdleBelow xs (k + 1)
+idle_next xs k all here i h = elim (cases_eq i k) [
+  | inl e ↦ λ w. here (ap (byte xs) (sym e) ∙ w)
+  | inr n ↦ all i (omega (arith, n))
+]
+
+pub idle_all : (xs : List ℕ) (k : ℕ) → length xs ≤ k → IdleBelow xs k → Idle xs
+idle_all xs k long all i = elim (cases_lt i k) [
+  | inl l ↦ all i l
+  | inr l ↦ λ w. absurd (omega (arith, w, get_or_past xs i 0 (omega arith)))
+]
+
+module _ (P : ℕ → Type 0) where
+  pub marked_none : (xs : List ℕ) → Marked P xs xs
+  marked_none xs = record { each = λ i. inl refl; fewer = omega arith }
+
+  module _ (old mid new : List ℕ) where
+    pub marked_next : Marked P old mid → Marked P mid new → Marked P old new
+    marked_next v w = record {
+      each = λ i. elim (w.each i) [
+        | inl e ↦ elim (v.each i) [
+          | inl f ↦ inl (e ∙ f)
+          | inr f ↦ inr (f.0, e ∙ f.1, f.2)
+        ]
+        | inr e ↦ elim (v.each i) [
+          | inl f ↦ inr (sym f ∙ e.0, e.1, e.2)
+          | inr f ↦ absurd (omega (arith, e.0, f.1))
+        ]
+      ];
+      fewer = omega (arith, v.fewer, w.fewer);
+    }
+
+  module _ (old new : List ℕ) (w : Marked P old new) where
+    pub marked_stays : (i : ℕ) → byte old i ≢ 0 → byte new i ≢ 0
+    marked_stays i n = elim (w.each i) [
+      | inl e ↦ λ z. n (sym e ∙ z)
+      | inr e ↦ absurd (n e.0)
+    ]
+
+    pub marked_more : (Q : ℕ → Type 0) → ((i : ℕ) → P i → Q i) → Marked Q old new
+    marked_more Q f = record {
+      each = λ i. elim (w.each i) [
+        | inl e ↦ inl e
+        | inr e ↦ inr (e.0, e.1, f i e.2)
+      ];
+      fewer = w.fewer;
+    }
+
+module _ (m : Model) (t : PhaseTable) where
+  -- a position's place is in the buffer
+  pub place_in : (s p : ℕ) → s < m.states → p < t.sizes.phases → s * t.sizes.phases + p < places m t
+  place_in s p hs hp = omega (arith, mul-add-lt s t.sizes.phases p m.states hs hp, mul_comm t.sizes.phases m.states)
+
+  -- what is said of a position, said of its place
+  pub at_place : (F : ℕ → ℕ → Type 0) (s p : ℕ) → p < t.sizes.phases → F s p → F ((s * t.sizes.phases + p) / t.sizes.phases) ((s * t.sizes.phases + p) % t.sizes.phases)
+  at_place F s p hp f = rw (div-mul-add s t.sizes.phases p hp, mod-mul-add s t.sizes.phases p hp) f
+
+  -- the moves to states below k are marked, where q is the phase that follows
+  abbrev pub MovedBelow : List ℕ → ℕ → ℕ → ℕ → ℕ → ℕ → Type 0
+  MovedBelow xs s x b q k = (s' : ℕ) → s' < k → m.move s x b s' ≡ true → byte xs (s' * t.sizes.phases + q) ≢ 0
+
+  module _ (s x b q k : ℕ) where
+    pub moves_skip : (xs : List ℕ) → (m.move s x b k ≡ true → ⊥) → MovedBelow xs s x b q k → MovedBelow xs s x b q (k + 1)
+    moves_skip xs none all s' h e = elim (cases_eq s' k) [
+      | inl f ↦ absurd (none (ap (m.move s x b) (sym f) ∙ e))
+      | inr n ↦ all s' (omega (arith, n)) e
+    ]
+
+    pub moves_mark : (P : ℕ → Type 0) (old new : List ℕ) → Marked P old new → byte new (k * t.sizes.phases + q) ≢ 0 → MovedBelow old s x b q k → MovedBelow new s x b q (k + 1)
+    moves_mark P old new w here all s' h e = elim (cases_eq s' k) [
+      | inl f ↦ λ z. here (ap (λ i. byte new (i * t.sizes.phases + q)) (sym f) ∙ z)
+      | inr n ↦ marked_stays P old new w _ (all s' (omega (arith, n)) e)
+    ]
+
+  module _ (d : Deal) (side : ℕ) where
+    -- what comes next is reached, at the place that is marked
+    pub next_place : (s p x b s' q i : ℕ) → Reached m t d side s p → promised d side p x ≡ true → relied d side p b ≡ true → m.move s x b s' ≡ true
+        → q ≡ follow t side p x b → i ≡ s' * t.sizes.phases + q → ReachedAt m t d side i
+    next_place s p x b s' q i r hx hb e eq ei =
+        rw (ei, eq) (at_place (Reached m t d side) s' (follow t side p x b) (follow_low t side p x b) (step s p x b s' r hx hb e))
+
+    -- a mark that was made for a move
+    pub move_marked : (old mid new : List ℕ) (s p x b s' q i : ℕ) → Reached m t d side s p → promised d side p x ≡ true → relied d side p b ≡ true → m.move s x b s' ≡ true
+        → q ≡ follow t side p x b → i ≡ s' * t.sizes.phases + q → Marked (λ j. j ≡ i) mid new → byte new i ≢ 0
+        → Marked (ReachedAt m t d side) old mid × MovedBelow mid s x b q s' → Marked (ReachedAt m t d side) old new × MovedBelow new s x b q (s' + 1)
+    move_marked old mid new s p x b s' q i r hx hb e eq ei w here (v, all) = (
+      marked_next _ old mid new v (marked_more _ mid new w _ (λ j f. subst (ReachedAt m t d side) (sym f) (next_place s p x b s' q i r hx hb e eq ei))),
+      moves_mark s x b q s' _ mid new w (λ z. here (ap (byte new) ei ∙ z)) all,
+    )
