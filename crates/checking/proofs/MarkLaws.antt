@@ -107,3 +107,33 @@ module _ (m : Model) (t : PhaseTable) where
       marked_next _ old mid new v (marked_more _ mid new w _ (λ j f. subst (ReachedAt m t d side) (sym f) (next_place s p x b s' q i r hx hb e eq ei))),
       moves_mark s x b q s' _ mid new w (λ z. here (ap (byte new) ei ∙ z)) all,
     )
+
+    -- the signals before a pair, the side's own first, are followed
+    abbrev pub FollowedBefore : List ℕ → ℕ → ℕ → ℕ → ℕ → Type 0
+    FollowedBefore xs s p x b = (x' b' : ℕ) → (x' < x) ⊎ ((x' ≡ x) × (b' < b)) → promised d side p x' ≡ true → relied d side p b' ≡ true → Moved m t side xs s p x' b'
+
+    module _ (s p x b : ℕ) where
+      pub follow_skip : (xs : List ℕ) → (promised d side p x ≡ true → relied d side p b ≡ true → ⊥) → FollowedBefore xs s p x b → FollowedBefore xs s p x (b + 1)
+      follow_skip xs none all x' b' h hx hb = elim h [
+        | inl l ↦ all x' b' (inl l) hx hb
+        | inr e ↦ elim (cases_eq b' b) [
+          | inl f ↦ absurd (none (ap (λ i. promised d side p i) (sym e.0) ∙ hx) (ap (λ i. relied d side p i) (sym f) ∙ hb))
+          | inr n ↦ all x' b' (inr (e.0, omega (arith, n, e.1))) hx hb
+        ]
+      ]
+
+      pub follow_more : (old mid new : List ℕ) → Marked (ReachedAt m t d side) mid new → Moved m t side new s p x b
+          → Marked (ReachedAt m t d side) old mid × FollowedBefore mid s p x b → Marked (ReachedAt m t d side) old new × FollowedBefore new s p x (b + 1)
+      follow_more old mid new w here (v, all) = (marked_next _ old mid new v w, more)
+        where
+          earlier : FollowedBefore new s p x b
+          earlier x' b' h hx hb s' e = marked_stays _ mid new w _ (all x' b' h hx hb s' e)
+
+          more : FollowedBefore new s p x (b + 1)
+          more x' b' h hx hb = elim h [
+            | inl l ↦ earlier x' b' (inl l) hx hb
+            | inr e ↦ elim (cases_eq b' b) [
+              | inl f ↦ subst (λ i. Moved m t side new s p i b') (sym e.0) (subst (Moved m t side new s p x) (sym f) here)
+              | inr n ↦ earlier x' b' (inr (e.0, omega (arith, n, e.1))) hx hb
+            ]
+          ]
