@@ -1,17 +1,18 @@
 -- Laws of marks: what a mark keeps, and what they tell where no place waits.
 use Rattle.std.proofs.Common.{◌≡◌, ℕ, zero, suc, ◌+◌, ◌*◌, ◌/◌, ◌%◌, ◌<◌, ◌≤◌, true, ◌≢◌, ◌⊎◌, List, length, get_or, set, replicate, sum_by, sym, refl, ap, ◌∙◌, subst, inl, inr, arith, get_or-set_other, get_or-set_same, mul_comm}
-use Rattle.std.proofs.lemmas.List.{get_or_past, get_or-replicate}
+use Rattle.std.proofs.lemmas.List.{get_or_past, get_or-replicate, length-replicate}
 use Rattle.std.proofs.lemmas.List.Sums.{sum_by-set}
 use Rattle.std.proofs.lemmas.Bool.{cases_lt, cases_eq}
 use Rattle.std.proofs.lemmas.Nat.{mul-add-lt, div-mul-add, mod-mul-add}
 use Rattle.reading.specs.Bytes.{byte}
 use Rattle.reading.specs.declared.phase_table.PhaseTable.{PhaseTable}
+use Rattle.reading.specs.declared.records.Position.{Position}
 use Rattle.games.specs.declared.deal.Deal.{Deal}
 use Rattle.games.specs.Machines.{Model, Lawful}
 use Rattle.checking.specs.Arenas.{promised, relied, follow}
-use Rattle.checking.specs.Reach.Reached.{step}
+use Rattle.checking.specs.Reach.Reached.{start, step}
 use Rattle.checking.specs.Reach.{Reached, places, Tells, Reach}
-use Rattle.checking.specs.Marking.{left, all_left, Marked, ReachedAt, Moved, Followed, Idle, Marking}
+use Rattle.checking.specs.Marking.{left, all_left, Marked, ReachedAt, Moved, Followed, Waiting, Idle, Marking}
 use Rattle.checking.proofs.PlayLaws.{follow_low}
 
 -- no place below k waits
@@ -136,4 +137,123 @@ module _ (m : Model) (t : PhaseTable) where
               | inl f ↦ subst (λ i. Moved m t side new s p i b') (sym e.0) (subst (Moved m t side new s p x) (sym f) here)
               | inr n ↦ earlier x' b' (inr (e.0, omega (arith, n, e.1))) hx hb
             ]
+          ]
+
+    -- a place tells its position, and the other way round
+    pub reached_at : (s p : ℕ) → p < t.sizes.phases → ReachedAt m t d side (s * t.sizes.phases + p) → Reached m t d side s p
+    reached_at s p hp r = rw (div-mul-add s t.sizes.phases p hp, mod-mul-add s t.sizes.phases p hp) at r
+
+    -- a position that waits is reached
+    pub waiting_reached : (xs : List ℕ) (at : Position) → Marking m t d side xs → Waiting m t xs at → Reached m t d side at.state at.phase
+    waiting_reached xs at i w = reached_at at.state at.phase w.phase (i.sound _ (λ z. omega (arith, z, w.waits)))
+
+    -- the start waits, and nothing else has a mark
+    module _ (l : Lawful m) (xs : List ℕ) (n i : ℕ) (blank : xs ≡ replicate n 0) (en : n ≡ places m t) (ei : i ≡ m.start * t.sizes.phases + 0) where
+      some : 0 < t.sizes.phases
+      some = omega (arith, t.sizes.some_phases)
+
+      none : (j : ℕ) → byte xs j ≡ 0
+      none j = elim (cases_lt j n) [
+        | inl h ↦ rw blank (get_or-replicate n j 0 0 h)
+        | inr h ↦ get_or_past xs j 0 (omega (arith, h, long))
+      ]
+        where
+          long : length xs ≡ n
+          long = ap length blank ∙ length-replicate {A = ℕ} n 0
+
+      first : byte (set xs i 2) i ≡ 2
+      first = get_or-set_same xs i 2 0 (omega (arith, ap length blank, length-replicate {A = ℕ} n 0, en, ei, place_in m.start 0 l.starts some))
+
+      other : (j : ℕ) → (j ≡ i → ⊥) → byte (set xs i 2) j ≡ 0
+      other j ne = get_or-set_other xs i j 2 0 ne ∙ none j
+
+      pub marking_start : Marking m t d side (set xs i 2)
+      marking_start = record {
+        low = λ j. elim (cases_eq j i) [
+          | inl e ↦ omega (arith, ap (byte (set xs i 2)) e, first)
+          | inr ne ↦ omega (arith, other j ne)
+        ];
+        starts = λ z. absurd (omega (arith, ap (byte (set xs i 2)) ei, first, z));
+        sound = λ j z. elim (cases_eq j i) [
+          | inl e ↦ rw (e, ei) (at_place (Reached m t d side) m.start 0 some start)
+          | inr ne ↦ absurd (z (other j ne))
+        ];
+        closed = λ j z. elim (cases_eq j i) [
+          | inl e ↦ absurd (omega (arith, ap (byte (set xs i 2)) e, first, z))
+          | inr ne ↦ absurd (omega (arith, other j ne, z))
+        ];
+      }
+
+    -- a position that waited, and what comes next after it is marked
+    module _ (old new : List ℕ) (at : Position) (i : ℕ) (inside : i < length old) (ei : i ≡ at.state * t.sizes.phases + at.phase) (w : Waiting m t old at) (marked : Marked (ReachedAt m t d side) (set old i 1) new) where
+      here : byte (set old i 1) i ≡ 1
+      here = get_or-set_same old i 1 0 inside
+
+      there : (j : ℕ) → (j ≡ i → ⊥) → byte (set old i 1) j ≡ byte old j
+      there j ne = get_or-set_other old i j 1 0 ne
+
+      was : byte old i ≡ 2
+      was = ap (byte old) ei ∙ w.waits
+
+      stays : (j : ℕ) → byte old j ≢ 0 → byte (set old i 1) j ≢ 0
+      stays j n = elim (cases_eq j i) [
+        | inl e ↦ λ z. absurd (omega (arith, ap (byte (set old i 1)) e, here, z))
+        | inr ne ↦ λ z. n (sym (there j ne) ∙ z)
+      ]
+
+      pub fewer : all_left new < all_left old
+      fewer = omega (arith, marked.fewer, sum_by-set left old i 1 0 inside, ap left was)
+
+      pub marking_next : Marking m t d side old → Followed m t d side new at.state at.phase → Marking m t d side new
+      marking_next k f = record {
+        low = λ j. elim (marked.each j) [
+          | inl e ↦ elim (cases_eq j i) [
+            | inl q ↦ omega (arith, e, ap (byte (set old i 1)) q, here)
+            | inr ne ↦ omega (arith, e, there j ne, k.low j)
+          ]
+          | inr e ↦ omega (arith, e.1)
+        ];
+        starts = marked_stays _ (set old i 1) new marked _ (stays _ k.starts);
+        sound = λ j z. elim (marked.each j) [
+          | inl e ↦ elim (cases_eq j i) [
+            | inl q ↦ k.sound j (λ u. absurd (omega (arith, u, ap (byte old) q, was)))
+            | inr ne ↦ k.sound j (λ u. z (e ∙ there j ne ∙ u))
+          ]
+          | inr e ↦ e.2
+        ];
+        closed = λ j z. elim (cases_eq j i) [
+          | inl q ↦ rw (q, ei) (at_place (Followed m t d side new) at.state at.phase w.phase f)
+          | inr ne ↦ elim (marked.each j) [
+            | inl e ↦ λ x b hx hb s' mv. marked_stays _ (set old i 1) new marked _ (stays _ (k.closed j (sym (there j ne) ∙ sym e ∙ z) x b hx hb s' mv))
+            | inr e ↦ absurd (omega (arith, e.1, z))
+          ]
+        ];
+      }
+
+    -- where no place waits, the marks tell
+    module _ (xs : List ℕ) (idle : Idle xs) (k : Marking m t d side xs) where
+      one : (i : ℕ) → byte xs i ≢ 0 → byte xs i ≡ 1
+      one i n = elim (cases_eq (byte xs i) 1) [
+        | inl e ↦ e
+        | inr ne ↦ absurd (idle i (omega (arith, k.low i, n, ne)))
+      ]
+
+      all_marked : (s p : ℕ) → Reached m t d side s p → (p < t.sizes.phases) × (byte xs (s * t.sizes.phases + p) ≢ 0)
+      all_marked s p start = (omega (arith, t.sizes.some_phases), k.starts)
+      all_marked s p (step s₀ p₀ x b s' r hx hb e) =
+          let h = all_marked s₀ p₀ r in (
+            follow_low t side p₀ x b,
+            after s₀ p₀ h.0 h.1 x b hx hb s' e,
+          )
+        where
+          after : (s p : ℕ) → p < t.sizes.phases → byte xs (s * t.sizes.phases + p) ≢ 0 → Followed m t d side xs s p
+          after s p hp n = rw (div-mul-add s t.sizes.phases p hp, mod-mul-add s t.sizes.phases p hp) at (k.closed _ (one _ n))
+
+      pub marking_done : length xs ≡ places m t → Reach m t d side xs
+      marking_done long = record { long = long; tells = tells }
+        where
+          tells : (s p : ℕ) → s < m.states → p < t.sizes.phases → Tells (byte xs (s * t.sizes.phases + p)) (Reached m t d side s p)
+          tells s p hs hp = elim (cases_eq (byte xs (s * t.sizes.phases + p)) 0) [
+            | inl z ↦ inr (z, λ r. (all_marked s p r).1 z)
+            | inr n ↦ inl (one _ n, reached_at s p hp (k.sound _ n))
           ]

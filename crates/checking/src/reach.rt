@@ -30,6 +30,6 @@ pub fn reach<G: Game>(
     if buffer.len() != usize::from(game.states()) * usize::from(table.phases()) {
         return Err(ReachFault::Buffer);
     }
-    seat.mark(buffer);
+    seat.mark_reached(buffer);
     Ok(())
 }

@@ -86,7 +86,7 @@ impl<G: Machine> Seat<'_, G> {
     }
 
     /// Marks all that is reached, and nothing else.
-    pub(crate) fn mark(&self, marks: &mut [u8])
+    pub(crate) fn mark_reached(&self, marks: &mut [u8])
         requires { length marks.old ≡ places (G.Machine.meaning self.now.game.now) self.now.table.now }
         ensures { Reach (G.Machine.meaning self.now.game.now) self.now.table.now self.now.deal.now self.now.side marks.new }
     {
