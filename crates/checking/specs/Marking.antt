@@ -6,7 +6,6 @@ use Rattle.reading.specs.declared.phase_table.PhaseTable.{PhaseTable}
 use Rattle.reading.specs.declared.records.Position.{Position}
 use Rattle.games.specs.declared.deal.Deal.{Deal}
 use Rattle.games.specs.Machines.{Model}
-use Rattle.checking.specs.declared.seat.Seat.{Seat}
 use Rattle.checking.specs.Arenas.{promised, relied, follow}
 use Rattle.checking.specs.Reach.{Reached}
 

@@ -1,4 +1,4 @@
-use Rattle.std.proofs.Common.{refl, sym, ◌∙◌, arith}
+use Rattle.std.proofs.Common.{sym, ◌∙◌, arith}
 use Rattle.std.proofs.lemmas.Bool.{false≢true}
 use Rattle.checking.proofs.PlayLaws.{follow_low}
 use Rattle.checking.proofs.MarkLaws.{place_in, moves_skip, move_marked}
@@ -24,9 +24,9 @@ loop-state-preserved g c =
     let m = g.G.Machine.meaning y.game.now in
     elim c.if-may_move.branch [
       | then-may_move w ↦ rw w.marks-is (
-        move_marked m y.table.now y.deal.now y.side c.args.marks.now c.loop-state.marks w.mark.new.marks c.args.at.state c.args.at.phase c.args.own c.args.partner c.loop-state.state c.follow-phase.result w.place.result
-        c.requires.reached c.requires.promised c.requires.relied (sym w.if-may_move.ensures) c.follow-phase.ensures w.place.ensures w.mark.ensures.marked w.mark.ensures.there c.loop-state.invariant
-      )
+          move_marked m y.table.now y.deal.now y.side c.args.marks.now c.loop-state.marks w.mark.new.marks c.args.at.state c.args.at.phase c.args.own c.args.partner c.loop-state.state c.follow-phase.result w.place.result
+          c.requires.reached c.requires.promised c.requires.relied (sym w.if-may_move.ensures) c.follow-phase.ensures w.place.ensures w.mark.ensures.marked w.mark.ensures.there c.loop-state.invariant
+          )
       | else-may_move w ↦ rw w.marks-is (
         c.loop-state.invariant.0,
         moves_skip m y.table.now c.args.at.state c.args.own c.args.partner c.follow-phase.result c.loop-state.state c.loop-state.marks

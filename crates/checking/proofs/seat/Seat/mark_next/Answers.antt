@@ -11,15 +11,15 @@ loop-partner-preserved g c =
     let i = c.loop-partner.invariant in
     elim c.if-promised.branch [
       | then-promised+then-relied w ↦ rw w.marks-is (
-        follow_more m y.table.now y.deal.now y.side c.args.at.state c.args.at.phase c.loop-own.own c.loop-partner.partner c.args.marks.now c.loop-partner.marks w.mark_moves.new.marks
-        w.mark_moves.ensures.marked w.mark_moves.ensures.moves i
-      )
+          follow_more m y.table.now y.deal.now y.side c.args.at.state c.args.at.phase c.loop-own.own c.loop-partner.partner c.args.marks.now c.loop-partner.marks w.mark_moves.new.marks
+          w.mark_moves.ensures.marked w.mark_moves.ensures.moves i
+          )
       | else-promised w ↦ rw w.marks-is (
         i.0,
         follow_skip m y.table.now y.deal.now y.side c.args.at.state c.args.at.phase c.loop-own.own c.loop-partner.partner c.loop-partner.marks
-        (λ hx hb. elim w.else-promised.branch [
-          | else-promised-via-then-promised+else-relied v ↦ false≢true (sym v.if-relied.false ∙ v.relied.ensures ∙ hb)
-          | else-promised-via-else-promised v ↦ false≢true (sym v.if-promised.false ∙ c.promised.ensures ∙ hx)
-        ]) i.1,
+            (λ hx hb. elim w.else-promised.branch [
+              | else-promised-via-then-promised+else-relied v ↦ false≢true (sym v.if-relied.false ∙ v.relied.ensures ∙ hb)
+              | else-promised-via-else-promised v ↦ false≢true (sym v.if-promised.false ∙ c.promised.ensures ∙ hx)
+            ]) i.1,
       )
     ]

@@ -1,5 +1,4 @@
 use Rattle.std.proofs.Common.{rules, ◌+◌, ◌*◌, ap, ◌∙◌, length, length-set, arith}
-use Rattle.checking.specs.Marking.{Marking}
 use Rattle.checking.proofs.MarkLaws.{place_in, waiting_reached, marking_start, marking_next, marking_done}
 use Rattle.checking.proofs.seat.Seat.mark_reached.Goals as goal
 
