@@ -1,7 +1,6 @@
 -- Laws of marks: what a mark keeps, and what they tell where no place waits.
-use Rattle.std.proofs.Common.{◌≡◌, ℕ, ◌+◌, ◌*◌, ◌/◌, ◌%◌, ◌<◌, ◌≤◌, true, ◌≢◌, ◌⊎◌, List, length, set, replicate, sym, refl, ap, ◌∙◌, subst, inl, inr, arith, get_or-set_other, get_or-set_same, mul_comm}
+use Rattle.std.proofs.Common.{◌≡◌, ℕ, ◌+◌, ◌*◌, ◌/◌, ◌%◌, ◌<◌, true, ◌≢◌, ◌⊎◌, List, length, set, replicate, sym, ap, ◌∙◌, subst, inl, inr, arith, get_or-set_other, get_or-set_same, mul_comm}
 use Rattle.std.proofs.lemmas.List.{get_or_past, get_or-replicate, length-replicate}
-use Rattle.std.proofs.lemmas.List.Sums.{sum_by-set}
 use Rattle.std.proofs.lemmas.Bool.{cases_lt, cases_eq}
 use Rattle.std.proofs.lemmas.Nat.{mul-add-lt, div-mul-add, mod-mul-add}
 use Rattle.reading.specs.Bytes.{byte}
@@ -11,30 +10,15 @@ use Rattle.games.specs.declared.deal.Deal.{Deal}
 use Rattle.games.specs.Machines.{Model, Lawful}
 use Rattle.checking.specs.Arenas.{promised, relied, follow}
 use Rattle.checking.specs.Reach.Reached.{start, step}
-use Rattle.checking.specs.Reach.{Reached, places, Tells, Reach}
-use Rattle.checking.specs.Marking.{left, all_left, Marked, ReachedAt, Moved, Followed, Waiting, Idle, Marking}
+use Rattle.checking.specs.Reach.{Reached, places, Tells, ReachedBytes}
+use Rattle.checking.specs.Marking.{Marked, ReachedAt, Moved, Followed, Waiting, Idle, Marking}
 use Rattle.checking.proofs.PlayLaws.{follow_low}
 
 -- no place below k waits
 abbrev pub IdleBelow : List ℕ → ℕ → Type 0
 IdleBelow xs k = (i : ℕ) → i < k → byte xs i ≢ 2
 
-pub idle_next : (xs : List ℕ) (k : ℕ) → IdleBelow xs k → byte xs k ≢ 2 → IdleBelow xs (k + 1)
-idle_next xs k all here i h = elim (cases_eq i k) [
-  | inl e ↦ λ w. here (ap (byte xs) (sym e) ∙ w)
-  | inr n ↦ all i (omega (arith, n))
-]
-
-pub idle_all : (xs : List ℕ) (k : ℕ) → length xs ≤ k → IdleBelow xs k → Idle xs
-idle_all xs k long all i = elim (cases_lt i k) [
-  | inl l ↦ all i l
-  | inr l ↦ λ w. absurd (omega (arith, w, get_or_past xs i 0 (omega arith)))
-]
-
 module _ (P : ℕ → Type 0) where
-  pub marked_none : (xs : List ℕ) → Marked P xs xs
-  marked_none xs = record { each = λ i. inl refl; fewer = omega arith }
-
   module _ (old mid new : List ℕ) where
     pub marked_next : Marked P old mid → Marked P mid new → Marked P old new
     marked_next v w = record {
@@ -201,9 +185,6 @@ module _ (m : Model) (t : PhaseTable) where
         | inr ne ↦ λ z. n (sym (there j ne) ∙ z)
       ]
 
-      pub fewer : all_left new < all_left old
-      fewer = omega (arith, marked.fewer, sum_by-set left old i 1 0 inside, ap left was)
-
       pub marking_next : Marking m t d side old → Followed m t d side new at.state at.phase → Marking m t d side new
       marking_next k f = record {
         low = λ j. elim (marked.each j) [
@@ -249,7 +230,7 @@ module _ (m : Model) (t : PhaseTable) where
           after : (s p : ℕ) → p < t.sizes.phases → byte xs (s * t.sizes.phases + p) ≢ 0 → Followed m t d side xs s p
           after s p hp n = rw (div-mul-add s t.sizes.phases p hp, mod-mul-add s t.sizes.phases p hp) at (k.closed _ (one _ n))
 
-      pub marking_done : length xs ≡ places m t → Reach m t d side xs
+      pub marking_done : length xs ≡ places m t → ReachedBytes m t d side xs
       marking_done long = record { long = long; tells = tells }
         where
           tells : (s p : ℕ) → s < m.states → p < t.sizes.phases → Tells (byte xs (s * t.sizes.phases + p)) (Reached m t d side s p)

@@ -36,11 +36,11 @@ abbrev pub Tells : ℕ → Type 0 → Type 0
 Tells n A = ((n ≡ 1) × A) ⊎ ((n ≡ 0) × (A → ⊥))
 
 -- bytes tell of each position whether it is reached; of P phases, state s in phase p has place s × P + p
-pub record Reach (m : Model) (t : PhaseTable) (d : Deal) (side : ℕ) (xs : List ℕ) : Type 0 where
+pub record ReachedBytes (m : Model) (t : PhaseTable) (d : Deal) (side : ℕ) (xs : List ℕ) : Type 0 where
   pub long : length xs ≡ places m t
   pub tells : (s p : ℕ) → s < m.states → p < t.sizes.phases → Tells (byte xs (s * t.sizes.phases + p)) (Reached m t d side s p)
 
 -- what reaching answers, and what it makes of the buffer
 abbrev pub Reaches : Model → PhaseTable → Deal → ℕ → List ℕ → List ℕ → Result Unit ReachFault → Type 0
-Reaches m t d side old new (Ok _) = (reach_refusal m t d side (length old) ≡ None) × Reach m t d side new
+Reaches m t d side old new (Ok _) = (reach_refusal m t d side (length old) ≡ None) × ReachedBytes m t d side new
 Reaches m t d side old new (Err f) = (reach_refusal m t d side (length old) ≡ Some (reach_number f)) × (new ≡ old)

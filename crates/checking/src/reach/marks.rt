@@ -1,7 +1,8 @@
-ghost use Rattle.std.specs.Prelude.{◌≡◌, ◌≢◌, ℕ, ◌+◌, ◌*◌, ◌<◌, true, length, MatchOption};
+ghost use Rattle.std.specs.Prelude.{◌≡◌, ◌≢◌, ℕ, ◌+◌, ◌*◌, ◌<◌, true, ◌&&◌, length, MatchOption};
 ghost use Rattle.reading.specs.Bytes.{byte};
 ghost use Rattle.checking.specs.Arenas.{promised, relied};
-ghost use Rattle.checking.specs.Reach.{Reached, Reach, places};
+ghost use Rattle.checking.specs.Checks.{at};
+ghost use Rattle.checking.specs.Reach.{Reached, ReachedBytes, places};
 ghost use Rattle.checking.specs.Marking.{Marked, ReachedAt, Moved, Followed, Waiting, Idle};
 
 use crate::seat::Seat;
@@ -34,6 +35,23 @@ impl<G: Machine> Seat<'_, G> {
         ensures { result ≡ at.state * self.now.table.now.sizes.phases + at.phase }
     {
         usize::from(at.state) * usize::from(self.table.phases()) + usize::from(at.phase)
+    }
+
+    /// Where it starts: in phase 0.
+    fn start(&self) -> Position
+        ensures { result ≡ at (G.Machine.meaning self.now.game.now).start 0 }
+    {
+        Position {
+            state: self.game.start(),
+            phase: 0,
+        }
+    }
+
+    /// Whether two signals may come together in a phase: the side promises its own, and relies on its partner's.
+    fn plays(&self, phase: u8, own: u8, partner: u8) -> bool
+        ensures { result ≡ (promised self.now.deal.now self.now.side phase own && relied self.now.deal.now self.now.side phase partner) }
+    {
+        self.promised(phase, own) && self.relied(phase, partner)
     }
 
     /// A position that waits.
@@ -78,7 +96,7 @@ impl<G: Machine> Seat<'_, G> {
     {
         for own in 0..self.game.own() {
             for partner in 0..self.game.partner() {
-                if self.promised(at.phase, own) && self.relied(at.phase, partner) {
+                if self.plays(at.phase, own, partner) {
                     self.mark_moves(marks, at, own, partner);
                 }
             }
@@ -88,14 +106,10 @@ impl<G: Machine> Seat<'_, G> {
     /// Marks all that is reached, and nothing else.
     pub(crate) fn mark_reached(&self, marks: &mut [u8])
         requires { length marks.old ≡ places (G.Machine.meaning self.now.game.now) self.now.table.now }
-        ensures { Reach (G.Machine.meaning self.now.game.now) self.now.table.now self.now.deal.now self.now.side marks.new }
+        ensures { ReachedBytes (G.Machine.meaning self.now.game.now) self.now.table.now self.now.deal.now self.now.side marks.new }
     {
         marks.fill(UNREACHED);
-        let start = Position {
-            state: self.game.start(),
-            phase: 0,
-        };
-        marks[self.place(start)] = WAITING;
+        marks[self.place(self.start())] = WAITING;
         while let Some(at) = self.waiting(marks) {
             marks[self.place(at)] = REACHED;
             self.mark_next(marks, at);
