@@ -12,3 +12,4 @@ pub mod SolutionLaws
 pub mod UniqueLaws
 pub mod SolveLaws
 pub mod MarkLaws
+mod ReachExamples
