@@ -11,3 +11,5 @@ pub mod WriteLaws
 pub mod SolutionLaws
 pub mod UniqueLaws
 pub mod SolveLaws
+pub mod MarkLaws
+mod ReachExamples

@@ -6,3 +6,5 @@ pub mod Checks
 pub mod Solutions
 pub mod Snapshots
 pub mod Solving
+pub mod Reach
+pub mod Marking

@@ -4,6 +4,7 @@ ghost use Rattle.std.specs.Prelude.{◌≡◌, ◌++◌, Some, codes, decimal};
 ghost use Rattle.checking.specs.declared.faults.CheckFault.TheVariants.{Reading};
 ghost use Rattle.checking.specs.Faults.{numbers};
 ghost use Rattle.checking.specs.Solutions.{solve_number};
+ghost use Rattle.checking.specs.Reach.{reach_number};
 
 use reading::faults::ReadFault;
 use reading::records::Position;
@@ -89,3 +90,23 @@ impl fmt::Display for SolveFault {
 }
 
 impl Error for SolveFault {}
+
+/// Why the reached positions are not told.
+#[derive(Clone, Copy, PartialEq, Eq, Debug)]
+pub enum ReachFault {
+    /// There is no such side, or sizes of game, table and deal differ.
+    Sizes,
+    /// The buffer has not a byte for each position.
+    Buffer,
+}
+
+impl fmt::Display for ReachFault {
+    ghost output = { λ x. Some (codes "refused " ++ decimal (reach_number x)) };
+
+    fn fmt<W: fmt::Write>(&self, f: &mut fmt::Formatter<W>) -> fmt::Result {
+        let refusal = self.number();
+        write!(f, "refused {refusal}")
+    }
+}
+
+impl Error for ReachFault {}

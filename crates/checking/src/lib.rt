@@ -5,6 +5,7 @@
 pub mod check;
 pub mod faults;
 mod ranking;
+pub mod reach;
 mod seat;
 mod snapshot;
 pub mod solve;

@@ -3,8 +3,9 @@ ghost use Rattle.std.specs.Option.{option_map, option_map_or};
 ghost use Rattle.reading.specs.Faults.{numbers as read_numbers};
 ghost use Rattle.checking.specs.Faults.{numbers, none};
 ghost use Rattle.checking.specs.Solutions.{solve_number};
+ghost use Rattle.checking.specs.Reach.{reach_number};
 
-use crate::faults::{CheckFault, SolveFault};
+use crate::faults::{CheckFault, ReachFault, SolveFault};
 use reading::faults::ReadFault;
 use reading::records::Position;
 
@@ -105,6 +106,18 @@ impl SolveFault {
             SolveFault::Sizes => 10,
             SolveFault::Buffer => 22,
             SolveFault::NoController => 23,
+        }
+    }
+}
+
+impl ReachFault {
+    /// The refusal's number.
+    pub fn number(&self) -> u8
+        ensures { result ≡ reach_number self.now }
+    {
+        match *self {
+            ReachFault::Sizes => 10,
+            ReachFault::Buffer => 22,
         }
     }
 }
