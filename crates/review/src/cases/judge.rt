@@ -57,10 +57,9 @@ fn sign(table: &PhaseTable, terms: Sides<Terms>) -> Result<Deal, Refusal>
 
 impl Case<'_> {
     /// The bound of the record, or the first refusal. The machine is replaced by that of the case.
-    pub(crate) fn judge(&self, machine: SheetMachine) -> Result<u16, Refusal>
+    pub(crate) fn judge(&self, mut machine: SheetMachine) -> Result<u16, Refusal>
         ensures { Judged (early_line self.now) self.now (told result) }
     {
-        let mut machine = machine;
         machine.load(self.machine).map_err(Refusal::Machine)?;
         let mut game = Watched::new(machine);
         game.watch(self.rule).map_err(Refusal::Rule)?;
