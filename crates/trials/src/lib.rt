@@ -11,5 +11,7 @@ mod inspection_tests;
 #[cfg(test)]
 mod reading_tests;
 #[cfg(test)]
+mod review_tests;
+#[cfg(test)]
 mod samples;
 pub mod shown;

@@ -1,0 +1,91 @@
+-- What is found of a case: the first refusal as it is printed, or the record's bound.
+use Rattle.std.specs.Prelude.{◌≡◌, ℕ, List, ◌++◌, codes, decimal, Some, None, Err, Option, Result}
+use Rattle.std.specs.Option.{option_map, option_map_or}
+use Rattle.std.specs.Result.{result_map_both, result_err}
+use Rattle.reading.specs.Firsts.{first_some}
+use Rattle.reading.specs.Faults.{printed}
+use Rattle.reading.specs.Faults.{numbers as read_numbers}
+use Rattle.reading.specs.MachineSheets.{sheet_in, machine_fault}
+use Rattle.reading.specs.RuleSheets.{automaton_in, rule_fault}
+use Rattle.reading.specs.PhaseTables.{Table, table_in, table_of, phase_fault}
+use Rattle.reading.specs.declared.phase_table.PhaseTable.{PhaseTable}
+use Rattle.reading.specs.declared.sides.Sides.{Sides}
+use Rattle.games.specs.declared.deal.Terms.{Terms}
+use Rattle.games.specs.declared.deal.Deal.{Deal}
+use Rattle.games.specs.Listings.{sheet_model}
+use Rattle.games.specs.Layers.{watched, watch_marks}
+use Rattle.games.specs.Deals.{terms_fault, first_gap}
+use Rattle.games.specs.Deals.{numbers as talk_numbers}
+use Rattle.checking.specs.Faults.{Refusal as CheckRefusal}
+use Rattle.checking.specs.Faults.{numbers as check_numbers}
+use Rattle.checking.specs.Checks.{check_answer}
+use Rattle.review.specs.declared.cases.Case.{Case}
+use Rattle.review.specs.declared.refusals.Refusal.{Refusal}
+use Rattle.review.specs.declared.refusals.Refusal.TheVariants.{Machine, Rule, Table as PhaseTableOf, Bid, Reply, Signing, Check}
+
+-- a refusal in print, by its number alone
+abbrev pub numbered : ℕ → List ℕ
+numbered n = codes "refused " ++ decimal n
+
+-- a refusal of a check in print: a fault of the record's bytes has its place, too
+abbrev pub check_line : CheckRefusal → List ℕ
+check_line r = option_map_or printed r.reading (numbered r.number)
+
+-- a refusal in print; every promise about printed refusals reads this definition
+abbrev pub line : Refusal → List ℕ
+line (Machine f) = printed (read_numbers f)
+line (Rule f) = printed (read_numbers f)
+line (PhaseTableOf f) = printed (read_numbers f)
+line (Bid f) = numbered (talk_numbers f).number
+line (Reply f) = numbered (talk_numbers f).number
+line (Signing f) = numbered (talk_numbers f).number
+line (Check f) = check_line (check_numbers f)
+
+-- what an answer tells: its value, or the refusal in print
+abbrev pub told : Result ℕ Refusal → Result ℕ (List ℕ)
+told = result_map_both (λ b. b) line
+
+-- the refusal in an answer, none where it has a value
+abbrev pub refused : {A : Type 0} → Result A Refusal → Option (List ℕ)
+refused r = option_map line (result_err r)
+
+-- the first of the three sheets that is refused: machine, rule, phase table
+abbrev pub sheets_line : Case → Option (List ℕ)
+sheets_line c = option_map printed
+    (first_some (machine_fault c.machine.now)
+    (first_some (rule_fault (sheet_in c.machine.now).states c.rule.now)
+    (phase_fault c.table.now)))
+
+-- the first refusal of both sides' terms: side 0's are not as described, side 1's are not, a promise beyond the other's reliance
+abbrev pub terms_line : Table → Sides Terms → Option (List ℕ)
+terms_line t s = option_map (λ r. numbered r.number)
+    (first_some (terms_fault t.phases t.signals0 t.signals1 s.first)
+    (first_some (terms_fault t.phases t.signals1 t.signals0 s.second)
+    (first_gap t.phases s.first s.second)))
+
+-- the first refusal before any check
+abbrev pub early_line : Case → Option (List ℕ)
+early_line c = first_some (sheets_line c) (terms_line (table_in c.table.now) c.terms)
+
+-- the deal that both sides sign on a table
+pub record Dealt (t : PhaseTable) (s : Sides Terms) (d : Deal) : Type 0 where
+  pub sizes : d.sizes ≡ t.sizes
+  pub terms : d.terms ≡ s
+
+-- what a check answers of the case's record, under a table and a deal: the machine of its sheet is watched by its rule sheet's automaton
+abbrev pub checked : Case → PhaseTable → Deal → Result ℕ (List ℕ)
+checked c t d = result_map_both (λ b. b) check_line
+    (check_answer (watched (sheet_model c.machine.now) (automaton_in c.rule.now)) (watch_marks (sheet_model c.machine.now) (automaton_in c.rule.now)) t d c.side c.record.now)
+
+-- a verdict is what a check answers under the case's phase table and the deal on its terms
+pub record Checked (c : Case) (verdict : Result ℕ (List ℕ)) : Type 0 where
+  pub table : PhaseTable
+  pub deal : Deal
+  pub read : table_of table ≡ table_in c.table.now
+  pub dealt : Dealt table c.terms deal
+  pub answer : verdict ≡ checked c table deal
+
+-- a verdict on a case, by what is refused before any check
+abbrev pub Judged : Option (List ℕ) → Case → Result ℕ (List ℕ) → Type 0
+Judged (Some l) c verdict = verdict ≡ Err l
+Judged None c verdict = Checked c verdict

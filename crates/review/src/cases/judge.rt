@@ -1,0 +1,70 @@
+ghost use Rattle.std.specs.Prelude.{◌≡◌, IfOk};
+ghost use Rattle.reading.specs.Faults.{told as told_read};
+ghost use Rattle.reading.specs.PhaseTables.{phase_fault, table_in, table_of};
+ghost use Rattle.review.specs.Verdicts.{terms_line, refused, told, Dealt, early_line, Judged};
+
+use crate::cases::Case;
+use crate::refusals::Refusal;
+use checking::check::check;
+use games::deal::talk::Talk;
+use games::deal::{Deal, Terms};
+use games::sheet_machine::SheetMachine;
+use games::watched::Watched;
+use reading::faults::ReadFault;
+use reading::phase_table::PhaseTable;
+use reading::sides::Sides;
+
+/// The phase table in the bytes, or their first fault.
+pub(crate) fn phase_table(bytes: &[u8]) -> Result<PhaseTable, ReadFault>
+    ensures first { told_read result ≡ phase_fault bytes.now }
+    ensures value { IfOk result (λ t. table_of t ≡ table_in bytes.now) }
+{
+    let mut table = PhaseTable::new();
+    table.read(bytes)?;
+    Ok(table)
+}
+
+/// The deal that both sides sign on a table, or why there is none.
+fn sign(table: &PhaseTable, terms: Sides<Terms>) -> Result<Deal, Refusal>
+    ensures first { refused result ≡ terms_line (table_of table.now) terms }
+    ensures value { IfOk result (Dealt table.now terms) }
+{
+    let bid = match Talk::open(table).bid(terms.first) {
+        Ok(bid) => bid,
+        Err(back) => {
+            let (talk, fault) = back;
+            talk.close();
+            return Err(Refusal::Bid(fault));
+        }
+    };
+    let reply = match bid.reply(terms.second) {
+        Ok(reply) => reply,
+        Err(back) => {
+            let (bid, fault) = back;
+            bid.close();
+            return Err(Refusal::Reply(fault));
+        }
+    };
+    match reply.sign() {
+        Ok(deal) => Ok(deal),
+        Err(back) => {
+            let (talk, fault) = back;
+            talk.close();
+            Err(Refusal::Signing(fault))
+        }
+    }
+}
+
+impl Case<'_> {
+    /// The bound of the record, or the first refusal. The machine is replaced by that of the case.
+    pub(crate) fn judge(&self, mut machine: SheetMachine) -> Result<u16, Refusal>
+        ensures { Judged (early_line self.now) self.now (told result) }
+    {
+        machine.load(self.machine).map_err(Refusal::Machine)?;
+        let mut game = Watched::new(machine);
+        game.watch(self.rule).map_err(Refusal::Rule)?;
+        let table = phase_table(self.table).map_err(Refusal::Table)?;
+        let deal = sign(&table, self.terms)?;
+        check(&game, &table, &deal, self.side, self.record).map_err(Refusal::Check)
+    }
+}
