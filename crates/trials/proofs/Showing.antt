@@ -4,6 +4,7 @@ use Rattle.std.proofs.lemmas.Bool.{true≢false, le-ltb}
 use Rattle.std.proofs.lemmas.Nat.{le-div}
 use Rattle.trials.specs.Toggles.{watched_toggle}
 use Rattle.trials.specs.Shown.{WatchedToggle, Signing}
+use Rattle.trials.specs.Checks.{Checking}
 
 -- a state from 4 up is none
 far : (t : ℕ) → 4 ≤ t → watched_toggle.move 0 1 1 t ≡ true → ⊥
@@ -23,3 +24,6 @@ shown = record { states = refl; start = refl; goals = (refl, refl); no_goals = (
 
 pub signing_shown : Signing
 signing_shown = record { terms2 = refl; terms3 = refl; signs = refl; too_far = refl }
+
+pub checking_shown : Checking
+checking_shown = record { passes = refl; bound = refl; rank_zero = refl; not_lower = refl }

@@ -1,2 +1,3 @@
 pub mod Toggles
 pub mod Shown
+pub mod Checks

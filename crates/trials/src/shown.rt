@@ -1,4 +1,5 @@
 ghost use Rattle.trials.specs.Shown.{WatchedToggle, Signing};
+ghost use Rattle.trials.specs.Checks.{Checking};
 
 /// The toggle watched by its rule sheet, as the definitions have it.
 pub fn watched_toggle()
@@ -8,4 +9,9 @@ pub fn watched_toggle()
 /// Signing on one phase with two signals each way, as the definitions have it.
 pub fn signing()
     ensures { Signing }
+{}
+
+/// Checking three records of the watched toggle, as the definitions have it.
+pub fn checking()
+    ensures { Checking }
 {}
