@@ -1,4 +1,4 @@
-ghost use Rattle.std.specs.Prelude.{◌≡◌, ◌≢◌, ℕ, ◌+◌, ◌*◌, ◌<◌, true, ◌&&◌, length, MatchOption};
+ghost use Rattle.std.specs.Prelude.{◌≡◌, ◌≢◌, ◌+◌, ◌*◌, ◌<◌, true, ◌&&◌, length, MatchOption};
 ghost use Rattle.reading.specs.Bytes.{byte};
 ghost use Rattle.checking.specs.Arenas.{promised, relied};
 ghost use Rattle.checking.specs.Checks.{at};
@@ -18,7 +18,7 @@ const REACHED: u8 = 1;
 /// The position is reached, and what comes next is not marked yet.
 const WAITING: u8 = 2;
 
-/// Marks a place that has no mark yet.
+/// Marks a place, if it has no mark yet.
 fn mark(marks: &mut [u8], place: usize)
     requires { place < length marks.old }
     ensures marked { Marked (λ i. i ≡ place) marks.old marks.new }
@@ -70,7 +70,7 @@ impl<G: Machine> Seat<'_, G> {
         None
     }
 
-    /// Marks what comes next under two signals.
+    /// Marks the positions that come next under two signals.
     fn mark_moves(&self, marks: &mut [u8], at: Position, own: u8, partner: u8)
         requires long { length marks.old ≡ places (G.Machine.meaning self.now.game.now) self.now.table.now }
         requires reached { Reached (G.Machine.meaning self.now.game.now) self.now.table.now self.now.deal.now self.now.side at.state at.phase }
@@ -87,7 +87,7 @@ impl<G: Machine> Seat<'_, G> {
         }
     }
 
-    /// Marks what comes next under each promised and each relied signal.
+    /// Marks the positions that come next, under each promised and each relied signal.
     fn mark_next(&self, marks: &mut [u8], at: Position)
         requires long { length marks.old ≡ places (G.Machine.meaning self.now.game.now) self.now.table.now }
         requires reached { Reached (G.Machine.meaning self.now.game.now) self.now.table.now self.now.deal.now self.now.side at.state at.phase }
@@ -103,7 +103,7 @@ impl<G: Machine> Seat<'_, G> {
         }
     }
 
-    /// Marks all that is reached, and nothing else.
+    /// Marks every position that is reached, and no other.
     pub(crate) fn mark_reached(&self, marks: &mut [u8])
         requires { length marks.old ≡ places (G.Machine.meaning self.now.game.now) self.now.table.now }
         ensures { ReachedBytes (G.Machine.meaning self.now.game.now) self.now.table.now self.now.deal.now self.now.side marks.new }
