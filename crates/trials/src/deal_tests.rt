@@ -18,7 +18,7 @@ fn given_up(talk: Talk, fault: TalkFault) -> (u8, u16, u8) {
     (fault.number(), fault.phase(), fault.side())
 }
 
-fn signed(
+pub(crate) fn signed(
     table: &PhaseTable,
     first: (u32, u32),
     second: (u32, u32),

@@ -3,6 +3,8 @@
 #![tactic(auto)]
 
 #[cfg(test)]
+mod checking_tests;
+#[cfg(test)]
 mod deal_tests;
 #[cfg(test)]
 mod games_tests;
