@@ -1,8 +1,7 @@
 -- A verdict where nothing is refused before the check.
 use Rattle.std.proofs.Common.{◌≡◌, ℕ, List, None, Result, refl, subst}
 use Rattle.std.specs.Result.{result_map_both}
-use Rattle.reading.specs.MachineSheets.{sheet_in, machine_fault}
-use Rattle.reading.specs.RuleSheets.{Automaton, automaton_in, rule_fault}
+use Rattle.reading.specs.RuleSheets.{Automaton, automaton_in}
 use Rattle.reading.specs.PhaseTables.{table_in, table_of, phase_fault}
 use Rattle.reading.specs.declared.phase_table.PhaseTable.{PhaseTable}
 use Rattle.games.specs.declared.deal.Deal.{Deal}
@@ -11,12 +10,11 @@ use Rattle.games.specs.Listings.{sheet_model}
 use Rattle.games.specs.Layers.{watched, watch_marks}
 use Rattle.checking.specs.Checks.{check_answer}
 use Rattle.review.specs.declared.cases.Case.{Case}
-use Rattle.review.specs.Verdicts.{check_line, terms_line, early_line, Dealt, Judged}
+use Rattle.review.specs.Verdicts.{check_line, game_line, terms_line, early_line, Dealt, Judged}
 
 -- nothing is refused before the check
 pub record Read (c : Case) (t : PhaseTable) : Type 0 where
-  pub machine : machine_fault c.machine.now ≡ None
-  pub rule : rule_fault (sheet_in c.machine.now).states c.rule.now ≡ None
+  pub game : game_line c ≡ None
   pub phases : phase_fault c.table.now ≡ None
   pub table : table_of t ≡ table_in c.table.now
   pub terms : terms_line (table_of t) c.terms ≡ None
@@ -24,7 +22,7 @@ pub record Read (c : Case) (t : PhaseTable) : Type 0 where
 none_early : (c : Case) (t : PhaseTable) → Read c t → early_line c ≡ None
 none_early c t r =
     let d : terms_line (table_in c.table.now) c.terms ≡ None = subst (λ x. terms_line x c.terms ≡ None) r.table r.terms in
-    rw (r.machine, r.rule, r.phases, d) refl
+    rw (r.game, r.phases, d) refl
 
 pub judged : (c : Case) (t : PhaseTable) (d : Deal) (m : Model) (a : Automaton) (v : Result ℕ (List ℕ)) →
     Read c t → Dealt t c.terms d → m ≡ sheet_model c.machine.now → a ≡ automaton_in c.rule.now →

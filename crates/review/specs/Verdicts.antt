@@ -6,13 +6,16 @@ use Rattle.reading.specs.Firsts.{first_some}
 use Rattle.reading.specs.Faults.{printed}
 use Rattle.reading.specs.Faults.{numbers as read_numbers}
 use Rattle.reading.specs.MachineSheets.{sheet_in, machine_fault}
-use Rattle.reading.specs.RuleSheets.{automaton_in, rule_fault}
+use Rattle.reading.specs.RuleSheets.{automaton_in, automaton_of, rule_fault}
 use Rattle.reading.specs.PhaseTables.{Table, table_in, table_of, phase_fault}
 use Rattle.reading.specs.declared.phase_table.PhaseTable.{PhaseTable}
 use Rattle.reading.specs.declared.sides.Sides.{Sides}
 use Rattle.games.specs.declared.deal.Terms.{Terms}
 use Rattle.games.specs.declared.deal.Deal.{Deal}
+use Rattle.games.specs.declared.sheet_machine.SheetMachine.{SheetMachine}
+use Rattle.games.specs.declared.watched.Watched.{Watched}
 use Rattle.games.specs.Listings.{sheet_model}
+use Rattle.games.specs.SheetMachines.{machine_of}
 use Rattle.games.specs.Layers.{watched, watch_marks}
 use Rattle.games.specs.Deals.{terms_fault, first_gap}
 use Rattle.games.specs.Deals.{numbers as talk_numbers}
@@ -49,12 +52,11 @@ told = result_map_both (λ b. b) line
 abbrev pub refused : {A : Type 0} → Result A Refusal → Option (List ℕ)
 refused r = option_map line (result_err r)
 
--- the first of the three sheets that is refused: machine, rule, phase table
-abbrev pub sheets_line : Case → Option (List ℕ)
-sheets_line c = option_map printed
+-- the machine sheet is refused, or the rule sheet for its states
+abbrev pub game_line : Case → Option (List ℕ)
+game_line c = option_map printed
     (first_some (machine_fault c.machine.now)
-    (first_some (rule_fault (sheet_in c.machine.now).states c.rule.now)
-    (phase_fault c.table.now)))
+    (rule_fault (sheet_in c.machine.now).states c.rule.now))
 
 -- the first refusal of both sides' terms: side 0's are not as described, side 1's are not, a promise beyond the other's reliance
 abbrev pub terms_line : Table → Sides Terms → Option (List ℕ)
@@ -63,9 +65,17 @@ terms_line t s = option_map (λ r. numbered r.number)
     (first_some (terms_fault t.phases t.signals1 t.signals0 s.second)
     (first_gap t.phases s.first s.second)))
 
--- the first refusal before any check
+-- the first refusal before any check: a sheet of the machine, the phase table, the terms
 abbrev pub early_line : Case → Option (List ℕ)
-early_line c = first_some (sheets_line c) (terms_line (table_in c.table.now) c.terms)
+early_line c =
+    first_some (game_line c)
+    (first_some (option_map printed (phase_fault c.table.now))
+    (terms_line (table_in c.table.now) c.terms))
+
+-- the game of a case: the machine of its sheet, watched by the automaton of its rule sheet
+pub record Plays (c : Case) (g : Watched SheetMachine) : Type 0 where
+  pub machine : machine_of g.below ≡ sheet_model c.machine.now
+  pub rule : automaton_of g.rule ≡ automaton_in c.rule.now
 
 -- the deal that both sides sign on a table
 pub record Dealt (t : PhaseTable) (s : Sides Terms) (d : Deal) : Type 0 where

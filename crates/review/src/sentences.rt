@@ -6,6 +6,36 @@ use games::deal::talk::TalkFault;
 use reading::records::{NO_CHOICE, NO_RANK, Position, Record};
 use std::fmt::{self, Formatter, Write};
 
+const SIZES: &str = "The side or the sizes of machine, table and deal do not fit.";
+
+const RECORD_SIZES: &str = "The sizes of the record do not fit machine and table.";
+
+/// The position that the rest of a sentence is about.
+#[derive(Clone, Copy)]
+struct Place(Position);
+
+impl fmt::Display for Place {
+    fn fmt<W: Write>(&self, f: &mut Formatter<W>) -> fmt::Result {
+        let Position { state, phase } = self.0;
+        write!(f, "state {state}, phase {phase}:")
+    }
+}
+
+/// A position at which the partner shows a signal.
+#[derive(Clone, Copy)]
+struct Tick {
+    at: Position,
+    partner: u8,
+}
+
+impl fmt::Display for Tick {
+    fn fmt<W: Write>(&self, f: &mut Formatter<W>) -> fmt::Result {
+        let place = Place(self.at);
+        let partner = self.partner;
+        write!(f, "{place} under partner signal {partner}")
+    }
+}
+
 /// What is wrong with a refused case, as a sentence.
 #[derive(Clone, Copy)]
 pub(crate) struct Sentence<'a> {
@@ -52,91 +82,75 @@ impl Sentence<'_> {
         Record::read(self.case.record).map_or(NO_RANK, |plan| plan.rank(at))
     }
 
-    /// The position of a next state under a partner signal.
-    fn after(&self, at: Position, partner: u8, next: u16) -> Position {
+    /// The phase after a tick, by the record's choice.
+    fn phase_after(&self, tick: Tick) -> u8 {
+        let Tick { at, partner } = tick;
         let own = self.choice(at);
-        let (first, second) = if self.case.side == 0 {
-            (own, partner)
-        } else {
-            (partner, own)
-        };
-        let phase = match phase_table(self.case.table) {
-            Ok(table) => table.next(at.phase, first, second),
+        match phase_table(self.case.table) {
+            Ok(table) if self.case.side == 0 => table.next(at.phase, own, partner),
+            Ok(table) => table.next(at.phase, partner, own),
+            // a table that is refused has no phase after, and nothing is checked under it
             Err(_) => 0,
-        };
-        Position { state: next, phase }
+        }
+    }
+
+    /// A rank that does not fit its state: 0 is for goals alone.
+    fn write_rank<W: Write>(&self, f: &mut Formatter<W>, at: Position) -> fmt::Result {
+        let place = Place(at);
+        match self.rank(at) {
+            0 => write!(f, "{place} the rank 0 is not at a goal"),
+            rank => write!(f, "{place} a goal has rank {rank}"),
+        }
     }
 
     /// What a check finds.
     fn write_fault<W: Write>(&self, f: &mut Formatter<W>, fault: CheckFault) -> fmt::Result {
         match fault {
             CheckFault::Reading(_) => f.write_str("The record is refused."),
-            CheckFault::Sizes => {
-                f.write_str("The side or the sizes of machine, table and deal do not fit.")
-            }
-            CheckFault::RecordSizes => {
-                f.write_str("The sizes of the record do not fit machine and table.")
+            CheckFault::Sizes => f.write_str(SIZES),
+            CheckFault::RecordSizes => f.write_str(RECORD_SIZES),
+            CheckFault::HalfKept(at) => {
+                write!(f, "{} only one of choice and rank is absent", Place(at))
             }
             CheckFault::StartAbsent { state } => {
-                write!(f, "state {state}, phase 0: the start is not kept")
+                let start = Place(Position { state, phase: 0 });
+                write!(f, "{start} the start is not kept")
             }
-            CheckFault::HalfKept(at)
-            | CheckFault::Forbidden(at)
-            | CheckFault::NotPromised(at)
-            | CheckFault::GoalRank(at) => self.write_position(f, fault, at),
-            CheckFault::NoNext { at, partner }
-            | CheckFault::NextAbsent { at, partner, .. }
-            | CheckFault::NotLower { at, partner, .. } => self.write_next(f, fault, at, partner),
-        }
-    }
-
-    /// What is wrong at a position by itself.
-    fn write_position<W: Write>(
-        &self,
-        f: &mut Formatter<W>,
-        fault: CheckFault,
-        at: Position,
-    ) -> fmt::Result {
-        write_place(f, at)?;
-        match (fault, self.rank(at)) {
-            (CheckFault::Forbidden(_), _) => f.write_str("the state is forbidden, yet kept"),
-            (CheckFault::NotPromised(_), _) => {
+            CheckFault::Forbidden(at) => {
+                write!(f, "{} the state is forbidden, yet kept", Place(at))
+            }
+            CheckFault::NotPromised(at) => {
                 let choice = self.choice(at);
-                write!(f, "the choice {choice} is not promised")
+                write!(f, "{} the choice {choice} is not promised", Place(at))
             }
-            (CheckFault::GoalRank(_), 0) => f.write_str("the rank 0 is not at a goal"),
-            (CheckFault::GoalRank(_), rank) => write!(f, "a goal has rank {rank}"),
-            _ => f.write_str("only one of choice and rank is absent"),
+            CheckFault::GoalRank(at) => self.write_rank(f, at),
+            CheckFault::NoNext { at, partner } => {
+                write!(f, "{} there is no next state", Tick { at, partner })
+            }
+            CheckFault::NextAbsent { at, partner, next } => {
+                let tick = Tick { at, partner };
+                let phase = self.phase_after(tick);
+                write!(
+                    f,
+                    "{tick} the next state {next} is not kept in phase {phase}"
+                )
+            }
+            CheckFault::NotLower { at, partner, next } => {
+                self.write_ranks(f, Tick { at, partner }, next)
+            }
         }
     }
 
-    /// What is wrong under a partner signal.
-    fn write_next<W: Write>(
-        &self,
-        f: &mut Formatter<W>,
-        fault: CheckFault,
-        at: Position,
-        partner: u8,
-    ) -> fmt::Result {
-        write_place(f, at)?;
-        write!(f, "under partner signal {partner} ")?;
-        match fault {
-            CheckFault::NextAbsent { next, .. } => {
-                let phase = self.after(at, partner, next).phase;
-                write!(f, "the next state {next} is not kept in phase {phase}")
-            }
-            CheckFault::NotLower { next, .. } => {
-                let rank = self.rank(self.after(at, partner, next));
-                let bar = self.rank(at);
-                write!(f, "the next state {next} has rank {rank}, not below {bar}")
-            }
-            _ => f.write_str("there is no next state"),
-        }
+    /// A next rank beside the one that it should be below.
+    fn write_ranks<W: Write>(&self, f: &mut Formatter<W>, tick: Tick, next: u16) -> fmt::Result {
+        let rank = self.rank(Position {
+            state: next,
+            phase: self.phase_after(tick),
+        });
+        let bar = self.rank(tick.at);
+        write!(
+            f,
+            "{tick} the next state {next} has rank {rank}, not below {bar}"
+        )
     }
-}
-
-/// The position that the rest of a sentence is about.
-fn write_place<W: Write>(f: &mut Formatter<W>, at: Position) -> fmt::Result {
-    let Position { state, phase } = at;
-    write!(f, "state {state}, phase {phase}: ")
 }

@@ -1,7 +1,7 @@
 ghost use Rattle.std.specs.Prelude.{◌≡◌, IfOk};
 ghost use Rattle.reading.specs.Faults.{told as told_read};
 ghost use Rattle.reading.specs.PhaseTables.{phase_fault, table_in, table_of};
-ghost use Rattle.review.specs.Verdicts.{terms_line, refused, told, Dealt, early_line, Judged};
+ghost use Rattle.review.specs.Verdicts.{game_line, Plays, terms_line, refused, told, Dealt, early_line, Judged};
 
 use crate::cases::Case;
 use crate::refusals::Refusal;
@@ -56,13 +56,22 @@ fn sign(table: &PhaseTable, terms: Sides<Terms>) -> Result<Deal, Refusal>
 }
 
 impl Case<'_> {
-    /// The bound of the record, or the first refusal. The machine is replaced by that of the case.
-    pub(crate) fn judge(&self, mut machine: SheetMachine) -> Result<u16, Refusal>
-        ensures { Judged (early_line self.now) self.now (told result) }
+    /// The watched machine, or which of its sheets is refused. A machine is handed in for its room.
+    fn game(&self, mut machine: SheetMachine) -> Result<Watched<SheetMachine>, Refusal>
+        ensures first { refused result ≡ game_line self.now }
+        ensures value { IfOk result (Plays self.now) }
     {
         machine.load(self.machine).map_err(Refusal::Machine)?;
         let mut game = Watched::new(machine);
         game.watch(self.rule).map_err(Refusal::Rule)?;
+        Ok(game)
+    }
+
+    /// The bound of the record, or the first refusal. A machine is handed in for its room.
+    pub(crate) fn judge(&self, machine: SheetMachine) -> Result<u16, Refusal>
+        ensures { Judged (early_line self.now) self.now (told result) }
+    {
+        let game = self.game(machine)?;
         let table = phase_table(self.table).map_err(Refusal::Table)?;
         let deal = sign(&table, self.terms)?;
         check(&game, &table, &deal, self.side, self.record).map_err(Refusal::Check)
