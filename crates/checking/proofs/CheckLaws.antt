@@ -3,7 +3,6 @@ use Rattle.std.proofs.Common.{◌≡◌, ℕ, ◌<◌, ◌≤◌, true, List, So
 use Rattle.std.specs.Result.{IsErrAnd}
 use Rattle.std.proofs.lemmas.Result.{err_from_is_err_and}
 use Rattle.std.proofs.lemmas.Bool.Decides.{nat_tests}
-use Rattle.reading.specs.Faults.{Fault}
 use Rattle.reading.specs.Firsts.{first_below}
 use Rattle.reading.specs.Records.{Parts, parts_in, bound_of, record_fault}
 use Rattle.reading.proofs.FirstLaws.{below_some}
@@ -18,7 +17,7 @@ use Rattle.games.proofs.DealLaws.{relied_in_range}
 use Rattle.checking.specs.Arenas.{arena, promised, relied, suits, Suits}
 use Rattle.checking.specs.Controllers.{plan_of, plan_in, Bound}
 use Rattle.checking.specs.declared.faults.CheckFault.{CheckFault}
-use Rattle.checking.specs.Faults.{Refusal, numbers, unread, refused}
+use Rattle.checking.specs.Faults.{Refusal, numbers, refused}
 use Rattle.checking.specs.Checks.{plan_fault, sized, Sized, check_fault, Ranked}
 use Rattle.checking.proofs.ControllerLaws.{Fitted, controller_of, of_controller}
 use Rattle.checking.proofs.BoundLaws.{kept_inside, bound_above, bound_is}
@@ -96,10 +95,6 @@ module _ (m : Model) (t : PhaseTable) (d : Deal) (side : ℕ) where
     -- no fault: they are one, and this is its bound
     pub accepts : (b : ℕ) → b ≡ bound_of (parts_in xs) → b < 65536 → check_fault m k t d side xs ≡ None → Ranked m k t d side xs × Bound (plan_in xs) b
     accepts b h l e = let r = ranked_from (omega arith) e in rw h (r, bound_is (parts_in xs) m.start 0 r.controller.starts)
-
-    -- where the reading fails
-    pub unreadable : (f : Fault) → suits m t d side ≡ true → record_fault xs ≡ Some f → check_fault m k t d side xs ≡ Some (unread f)
-    unreadable f e h = rw (e, h) refl
 
     -- past reading and sizes, the first fault is the plan's
     pub plan_next : (r : Parts) → r ≡ parts_in xs → suits m t d side ≡ true → record_fault xs ≡ None → sized m t r ≡ true

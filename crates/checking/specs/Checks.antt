@@ -44,16 +44,19 @@ partner_fault a c s p b =
     (first_some (unless (some_below a.states (a.move s (c.choice s p) b)) (numbers (NoNext (at s p) b)))
     (first_below a.states (next_fault a c s p b)))
 
--- at the position of state s in phase p: only one of choice and rank is absent; if it is kept, the state is forbidden, the choice is
--- not promised, the rank is 0 elsewhere than at a goal or a goal's is not; then partner signal by partner signal
+-- at a kept position: the state is forbidden, the choice is not promised, the rank is 0 elsewhere than at a goal or a goal's is not
+abbrev pub kept_fault : Arena → Plan → ℕ → ℕ → Option Refusal
+kept_fault a c s p =
+    first_some (unless (not (a.forbidden s)) (numbers (Forbidden (at s p))))
+    (first_some (unless (a.promised p (c.choice s p)) (numbers (NotPromised (at s p))))
+    (unless (beq (a.goal s) (c.rank s p == 0)) (numbers (GoalRank (at s p)))))
+
+-- at the position of state s in phase p: only one of choice and rank is absent; if it is kept, what it says for itself, then partner
+-- signal by partner signal
 abbrev pub position_fault : Arena → Plan → ℕ → ℕ → Option Refusal
 position_fault a c s p =
     first_some (unless (whole c s p) (numbers (HalfKept (at s p))))
-    (where_so (keeps c s p)
-    (first_some (unless (not (a.forbidden s)) (numbers (Forbidden (at s p))))
-    (first_some (unless (a.promised p (c.choice s p)) (numbers (NotPromised (at s p))))
-    (first_some (unless (beq (a.goal s) (c.rank s p == 0)) (numbers (GoalRank (at s p))))
-    (first_below a.partner (partner_fault a c s p))))))
+    (where_so (keeps c s p) (first_some (kept_fault a c s p) (first_below a.partner (partner_fault a c s p))))
 
 -- position by position, as s × P + p ascends
 abbrev pub positions_fault : Arena → Plan → Option Refusal

@@ -10,6 +10,7 @@ use crate::faults::CheckFault;
 use crate::seat::Seat;
 use games::deal::Deal;
 use games::machine::{Game, Machine};
+use reading::faults;
 use reading::phase_table::PhaseTable;
 use reading::records::Record;
 
@@ -31,14 +32,10 @@ pub fn check<G: Game>(
         deal,
         side,
     };
-    if !seat.suits() {
-        return Err(CheckFault::Sizes);
-    }
+    faults::check(seat.suits(), CheckFault::Sizes)?;
     let plan = Record::read(bytes)?;
     let candidate = Candidate { seat, plan };
-    if !candidate.sized() {
-        return Err(CheckFault::RecordSizes);
-    }
+    faults::check(candidate.sized(), CheckFault::RecordSizes)?;
     candidate.check()?;
     Ok(plan.bound())
 }

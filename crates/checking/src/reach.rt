@@ -6,7 +6,9 @@ use crate::faults::ReachFault;
 use crate::seat::Seat;
 use games::deal::Deal;
 use games::machine::{Game, Machine};
+use reading::faults::check;
 use reading::phase_table::PhaseTable;
+use reading::records::places;
 
 /// Writes 1 at the place of each position that can come up for a side, and 0 at every other. Of P phases, state s in phase p has place s × P + p.
 pub fn reach<G: Game>(
@@ -24,12 +26,9 @@ pub fn reach<G: Game>(
         deal,
         side,
     };
-    if !seat.suits() {
-        return Err(ReachFault::Sizes);
-    }
-    if buffer.len() != usize::from(game.states()) * usize::from(table.phases()) {
-        return Err(ReachFault::Buffer);
-    }
+    check(seat.suits(), ReachFault::Sizes)?;
+    let size = places(game.states(), table.phases());
+    check(buffer.len() == size, ReachFault::Buffer)?;
     seat.mark_reached(buffer);
     Ok(())
 }

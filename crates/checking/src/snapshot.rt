@@ -13,6 +13,7 @@ pub(crate) const SIGNALS: u8 = 4;
 #[derive(Drop)]
 pub(crate) struct Snapshot {
     frame: Frame,
+    // one piece for the largest game, so that solving takes no memory
     rows: Vec<StateSet>,
     forbidden: StateSet,
     goals: StateSet,

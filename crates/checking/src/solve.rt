@@ -7,8 +7,9 @@ use crate::seat::Seat;
 use crate::snapshot::Snapshot;
 use games::deal::Deal;
 use games::machine::{Game, Machine};
+use reading::faults::check;
 use reading::phase_table::PhaseTable;
-use reading::records::{NO_RANK, Position, Record};
+use reading::records::{NO_RANK, Position, Record, length};
 use std::alloc::{AllocError, Global};
 
 /// Room for a solver, made once for games of any size; solving itself takes no memory.
@@ -47,12 +48,9 @@ pub fn solve<'a, G: Game>(
         deal,
         side,
     };
-    if !seat.suits() {
-        return Err(SolveFault::Sizes);
-    }
-    if buffer.len() != 4 + 3 * (usize::from(game.states()) * usize::from(table.phases())) {
-        return Err(SolveFault::Buffer);
-    }
+    check(seat.suits(), SolveFault::Sizes)?;
+    let size = length(game.states(), table.phases());
+    check(buffer.len() == size, SolveFault::Buffer)?;
     workspace.snapshot.take(game);
     let played = Seat {
         game: &workspace.snapshot,
@@ -65,9 +63,8 @@ pub fn solve<'a, G: Game>(
         state: workspace.snapshot.start(),
         phase: 0,
     };
-    if workspace.ranking.entry(start).rank == NO_RANK {
-        return Err(SolveFault::NoController);
-    }
+    let kept = workspace.ranking.entry(start).rank != NO_RANK;
+    check(kept, SolveFault::NoController)?;
     workspace.ranking.write(&played, buffer);
     // what was written can be read
     Ok(Record::read(buffer).unwrap().bound())

@@ -3,7 +3,7 @@ ghost use Rattle.games.specs.Machines.{Model, Marks, Lawful, forbidden_in, goal_
 
 use reading::machine_sheet::Frame;
 
-/// A machine answers each question from its meaning alone, whatever numbers it is asked about.
+/// A machine answers each question from its meaning alone, whatever numbers it is asked about: numbers, and no types that would ask more.
 pub trait Machine {
     ghost meaning: { Self → Model };
 

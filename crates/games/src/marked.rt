@@ -33,6 +33,7 @@ impl<M: Machine + Drop> Marked<M> {
         ensures below { self.new.below ≡ self.old.below }
         ensures value { MatchResult result (λ _. sets_of self.new.marks ≡ sets_in (M.Machine.meaning self.old.below).states bytes.now) (λ _. self.new ≡ self.old) }
     {
+        // two lines like those of `watch`, for a sheet of another type
         let states = self.below.states();
         self.marks = MarkSheet::read(bytes, states)?;
         Ok(())
@@ -44,6 +45,7 @@ impl<M: Machine + Drop> Machine for Marked<M> {
 
     ghost lawful = { λ x. M.Machine.lawful x.below };
 
+    // each question is handed on, as in `Watched`: no form hands on a trait's questions
     fn states(&self) -> u16 {
         self.below.states()
     }

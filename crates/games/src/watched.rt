@@ -7,7 +7,7 @@ ghost use Rattle.games.specs.Products.{watched_lawful};
 
 use crate::machine::{Game, Machine};
 use reading::faults::ReadFault;
-use reading::rule_sheet::RuleSheet;
+use reading::rule_sheet::{RuleSheet, can_watch};
 
 /// Any machine watched by an automaton that reads the labels of the states entered.
 #[derive(Drop)]
@@ -32,7 +32,7 @@ impl<M: Machine + Drop> Watched<M> {
     fn in_force(&self) -> RuleSheet
         ensures { automaton_of result ≡ fitting (M.Machine.meaning self.now.below) (automaton_of self.now.rule) }
     {
-        if u32::from(self.below.states()) * u32::from(self.rule.states()) <= 256 {
+        if can_watch(self.below.states(), self.rule.states()) {
             self.rule
         } else {
             RuleSheet::new()
@@ -93,6 +93,7 @@ impl<M: Machine + Drop> Machine for Watched<M> {
             return false;
         }
         let entered = self.below.label(next / count);
+        // a state of the automaton fits a byte
         next % count == u16::from(rule.next((state % count) as u8, entered))
     }
 }
@@ -106,6 +107,7 @@ impl<M: Machine + Drop> Game for Watched<M> {
 
     fn goal(&self, state: u16) -> bool {
         let rule = self.in_force();
+        // a state of the automaton fits a byte
         state < self.states() && rule.accepting((state % u16::from(rule.states())) as u8)
     }
 }

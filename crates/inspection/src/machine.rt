@@ -9,7 +9,7 @@ use std::fmt::{self, Formatter, Write};
 
 /// Where a move of the list starts.
 fn source_at(sheet: &MachineSheet<'_>, i: u16) -> Source
-    ensures { result.state ≡ state_at (sheet_of sheet.now) i }
+    ensures { result.from ≡ state_at (sheet_of sheet.now) i }
 {
     Source::of(sheet.entry(i).key, sheet.frame().own, sheet.frame().partner)
 }
@@ -21,7 +21,7 @@ fn end_of(sheet: &MachineSheet<'_>, state: u16, from: u16) -> u16
     ensures stops { result < sheet.now.moves → state_at (sheet_of sheet.now) result ≢ state }
 {
     (from..sheet.moves())
-        .find(|&i| source_at(sheet, i).state != state)
+        .find(|&i| source_at(sheet, i).from != state)
         .unwrap_or(sheet.moves())
 }
 

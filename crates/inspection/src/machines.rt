@@ -34,7 +34,7 @@ fn write_nexts<W: Write, M: Machine>(
     writeln!(f)
 }
 
-/// The moves of a state, a line for each pair of signals that has one.
+/// The moves of a state, a line for each pair of signals that has one; of any machine, and so not as a sheet lists them.
 fn write_moves<W: Write, M: Machine>(f: &mut Formatter<W>, machine: &M, state: u16) -> fmt::Result {
     for own in 0..machine.own() {
         for partner in 0..machine.partner() {

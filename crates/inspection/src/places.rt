@@ -31,6 +31,7 @@ impl Cell {
         let columns = u16::from(columns.max(1));
         Cell {
             row: i / columns,
+            // what is left of a division fits
             column: (i % columns) as u8,
         }
     }
@@ -39,7 +40,7 @@ impl Cell {
 /// Where a move starts: a state or a phase, and the signals that both sides show there.
 #[derive(Clone, Copy, PartialEq, Eq, Debug)]
 pub(crate) struct Source {
-    pub state: u16,
+    pub from: u16,
     pub first: u8,
     pub second: u8,
 }
@@ -47,15 +48,15 @@ pub(crate) struct Source {
 impl Source {
     /// A key read backward: it is (state × first signals + first) × second signals + second.
     pub(crate) fn of(key: u16, firsts: u8, seconds: u8) -> Source
-        ensures state { result.state ≡ state_of firsts seconds key }
-        ensures whole { 1 ≤ firsts → 1 ≤ seconds → (result.state * firsts + result.first) * seconds + result.second ≡ key }
+        ensures from { result.from ≡ state_of firsts seconds key }
+        ensures whole { 1 ≤ firsts → 1 ≤ seconds → (result.from * firsts + result.first) * seconds + result.second ≡ key }
         ensures first { 1 ≤ firsts → result.first < firsts }
         ensures second { 1 ≤ seconds → result.second < seconds }
     {
         let below = Cell::of(key, seconds);
         let above = Cell::of(below.row, firsts);
         Source {
-            state: above.row,
+            from: above.row,
             first: above.column,
             second: below.column,
         }
@@ -99,7 +100,7 @@ pub(crate) fn rule_step(place: u16) -> Step
 
 /// Phase and signals whose next phase stands at a place of a phase table.
 pub(crate) fn phase_source(place: u16, signals0: u8, signals1: u8) -> Source
-    ensures whole { 3 ≤ place → 1 ≤ signals0 → 1 ≤ signals1 → 3 + ((result.state * signals0 + result.first) * signals1 + result.second) ≡ place }
+    ensures whole { 3 ≤ place → 1 ≤ signals0 → 1 ≤ signals1 → 3 + ((result.from * signals0 + result.first) * signals1 + result.second) ≡ place }
     ensures first { 1 ≤ signals0 → result.first < signals0 }
     ensures second { 1 ≤ signals1 → result.second < signals1 }
 {
@@ -123,5 +124,6 @@ pub(crate) fn marked_state(byte: u8, place: u16, low: u16) -> Option<u16>
     ensures { IfSome result (λ s. (low ≤ s) × (s / 8 ≡ place % 32) × (bit byte (s % 8) ≡ true)) }
 {
     let first = 8 * (place % 32);
+    // what is left of a division fits
     (first..first + 8).find(|&state| low <= state && has_bit(byte, (state % 8) as u8))
 }

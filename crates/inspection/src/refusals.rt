@@ -16,6 +16,8 @@ use std::fmt::{self, Formatter, Write};
 /// Said of a fault that its kind of sheet does not have.
 const UNLAWFUL: &str = "The sheet is not lawful there.";
 
+// Sentences differ from kind to kind, and so are matched by kind for each fault, and by the place that it has.
+
 /// What is wrong with a refused sheet, as a sentence.
 #[derive(Clone, Copy)]
 pub(crate) struct Sentence<'a> {
@@ -159,13 +161,13 @@ impl Sentence<'_> {
             }
             Kind::Phases => {
                 let Source {
-                    state,
+                    from,
                     first,
                     second,
                 } = phase_source(place, self.byte(1), self.byte(2));
                 write!(
                     f,
-                    "The phase after phase {state} on signals {first} and {second} is not a phase of the table."
+                    "The phase after phase {from} on signals {first} and {second} is not a phase of the table."
                 )
             }
             Kind::Record => {

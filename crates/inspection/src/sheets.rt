@@ -1,13 +1,12 @@
 ghost use Rattle.std.specs.Prelude.{◌≡◌, IfOk, string_bytes};
 ghost use Rattle.reading.specs.Faults.{told};
-ghost use Rattle.reading.specs.PhaseTables.{phase_fault};
 ghost use Rattle.inspection.specs.Refusals.{sheet_fault, Tells};
 
 use crate::kinds::Kind;
 use crate::refusals::{Sentence, refusal};
 use crate::{machine, marks, phases, records, rule};
 use reading::bytes::length_place;
-use reading::faults::ReadFault;
+use reading::faults::{ReadFault, check};
 use reading::machine_sheet::MachineSheet;
 use reading::mark_sheet::MarkSheet;
 use reading::phase_table::PhaseTable;
@@ -29,28 +28,17 @@ enum Sheet<'a> {
     Record(Record<'a>),
 }
 
-/// The phase table in the bytes, or their first fault.
-fn phase_table(bytes: &[u8]) -> Result<PhaseTable, ReadFault>
-    ensures { told result ≡ phase_fault bytes.now }
-{
-    let mut table = PhaseTable::new();
-    table.read(bytes)?;
-    Ok(table)
-}
-
 impl<'a> Sheet<'a> {
     /// The sheet of that kind in the bytes, or their first fault.
     fn read(kind: Kind, bytes: &'a [u8]) -> Result<Sheet<'a>, ReadFault>
         ensures { told result ≡ sheet_fault kind bytes.now }
     {
-        if bytes.len() > LIMIT {
-            return Err(ReadFault::Size(length_place(bytes)));
-        }
+        check(bytes.len() <= LIMIT, ReadFault::Size(length_place(bytes)))?;
         Ok(match kind {
             Kind::Machine => Sheet::Machine(MachineSheet::read(bytes)?),
             Kind::Marks(states) => Sheet::Marks(MarkSheet::read(bytes, states)?),
             Kind::Rule(states) => Sheet::Rule(RuleSheet::read(bytes, states)?),
-            Kind::Phases => Sheet::Phases(phase_table(bytes)?),
+            Kind::Phases => Sheet::Phases(PhaseTable::parse(bytes)?),
             Kind::Record => Sheet::Record(Record::read(bytes)?),
         })
     }
@@ -58,6 +46,7 @@ impl<'a> Sheet<'a> {
 
 impl fmt::Display for Sheet<'_> {
     fn fmt<W: fmt::Write>(&self, f: &mut fmt::Formatter<W>) -> fmt::Result {
+        // five functions: five wrappers with a `Display` each would say no more
         match self {
             Sheet::Machine(sheet) => machine::write(f, sheet),
             Sheet::Marks(sheet) => marks::write(f, sheet),

@@ -3,17 +3,17 @@ use Rattle.std.proofs.Common.{◌≡◌, ℕ, zero, suc, ◌-◌, ◌*◌, ◌<�
 use Rattle.std.proofs.lemmas.Bool.{cases_eq, ltb-true, leb-true, eqb-true, lt-ltb, le-leb, eq-eqb, or_cases, or_left, or_right, and_parts, and_from}
 use Rattle.reading.specs.Firsts.{unless}
 use Rattle.reading.specs.Faults.{Fault, fault, length_place}
-use Rattle.reading.specs.MachineSheets.{key_place, target_place, Sheet, sheet_in, field_fault, head_fault, Headed, Ranged, Listed, Lawful, Before, before, key_at, target_at, move_fault, body_fault, machine_fault}
+use Rattle.reading.specs.MachineSheets.{key_place, target_place, Sheet, sheet_in, frame_fault, field_fault, head_fault, Headed, Ranged, Listed, Lawful, Before, before, key_at, target_at, move_fault, body_fault, machine_fault}
 use Rattle.reading.proofs.FirstLaws.{none_left, none_right, of_none, of_right, none_unless, unless_none, none_below, below_none}
 use Rattle.reading.proofs.EntryLaws.{entries_below, below_entries}
 use Rattle.reading.proofs.Ranges.{from_within, to_within}
 
 pub fields_from : (n k m start moves : ℕ) → field_fault n k m start moves ≡ None → Ranged n k m start moves
 fields_from n k m start moves e =
-    let e1 = none_right _ _ e in
+    let e0 = none_left (frame_fault n k m start) _ e in
+    let e1 = none_right _ _ e0 in
     let e2 = none_right _ _ e1 in
-    let e3 = none_right _ _ e2 in
-    let hn = from_within 1 256 n (none_unless _ _ (none_left _ _ e)) in
+    let hn = from_within 1 256 n (none_unless _ _ (none_left _ _ e0)) in
     let hk = from_within 1 4 k (none_unless _ _ (none_left _ _ e1)) in
     let hm = from_within 1 4 m (none_unless _ _ (none_left _ _ e2)) in
     record {
@@ -23,17 +23,17 @@ fields_from n k m start moves e =
       few_own = hk.1;
       some_partner = hm.0;
       few_partner = hm.1;
-      starts = ltb-true start n (none_unless _ _ (none_left _ _ e3));
-      few_moves = leb-true moves 4096 (none_unless _ _ (none_right _ _ e3));
+      starts = ltb-true start n (none_unless _ _ (none_right _ _ e2));
+      few_moves = leb-true moves 4096 (none_unless _ _ (none_right (frame_fault n k m start) _ e));
     }
 
 fields_to : (n k m start moves : ℕ) → Ranged n k m start moves → field_fault n k m start moves ≡ None
 fields_to n k m start moves f =
-    of_none _ _ (unless_none _ _ (to_within 1 256 n f.some_states f.few_states))
+    of_none (frame_fault n k m start) _
+    (of_none _ _ (unless_none _ _ (to_within 1 256 n f.some_states f.few_states))
     (of_none _ _ (unless_none _ _ (to_within 1 4 k f.some_own f.few_own))
-    (of_none _ _ (unless_none _ _ (to_within 1 4 m f.some_partner f.few_partner))
-    (of_none _ _ (unless_none _ _ (lt-ltb start n f.starts))
-    (unless_none _ _ (le-leb moves 4096 f.few_moves)))))
+    (of_none _ _ (unless_none _ _ (to_within 1 4 m f.some_partner f.few_partner)) (unless_none _ _ (lt-ltb start n f.starts)))))
+    (unless_none _ _ (le-leb moves 4096 f.few_moves))
 
 module _ (s : Sheet) where
   pub before_from : (i j : ℕ) → before (key_at s i) (target_at s i) (key_at s j) (target_at s j) ≡ true → Before s i j

@@ -9,7 +9,7 @@ use Rattle.reading.specs.Bytes.{byte, bit}
 use Rattle.reading.specs.Faults.{Fault, fault, length_place}
 use Rattle.reading.specs.Marks.{marked, implies}
 use Rattle.reading.specs.MarkSheets.{Sets, stray_fault, clash_fault, mark_fault, Lawful}
-use Rattle.reading.proofs.FirstLaws.{of_none, none_left, none_right, none_unless, unless_none, none_below, below_none, not_true}
+use Rattle.reading.proofs.FirstLaws.{of_none, of_right, none_left, none_right, none_unless, unless_none, none_below, below_none, not_true}
 use Rattle.reading.proofs.Padding.{front_of_zeros, padded_whole, zeros_are}
 use Rattle.reading.proofs.Bits.{bit_below, bits_below, bit_of_and, no_bit, no_bits}
 
@@ -127,6 +127,12 @@ pub same_clashes : (xs forbidden goals : List ℕ) → forbidden ≡ take 32 xs 
     → first_below (length forbidden) (clash_fault forbidden goals) ≡ first_below (length (take 32 xs)) (clash_fault (take 32 xs) (drop 32 xs))
 same_clashes xs forbidden goals hf hg =
     ap (λ ys. first_below (length ys) (clash_fault ys goals)) hf ∙ ap (λ ys. first_below (length (take 32 xs)) (clash_fault (take 32 xs) ys)) hg
+
+-- the first fault, where the length and all bits fit
+pub clashes_first : (n : ℕ) (xs forbidden goals : List ℕ) → length xs ≡ 64 → None ≡ first_below (length xs) (stray_fault n xs) → forbidden ≡ take 32 xs → goals ≡ drop 32 xs
+    → mark_fault n xs ≡ first_below (length forbidden) (clash_fault forbidden goals)
+clashes_first n xs forbidden goals long strays hf hg =
+    of_right _ _ (unless_none _ _ (eq-eqb _ _ long)) ∙ of_right _ _ (sym strays) ∙ sym (same_clashes xs forbidden goals hf hg)
 
 -- the sets that were read are the halves of the sheet
 pub half_kept : (ys half buffer : List ℕ) → buffer ≡ half ++ drop (length half) (replicate 32 0) → half ≡ ys → length half ≡ 32 → buffer ≡ ys

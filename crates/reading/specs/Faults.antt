@@ -36,11 +36,6 @@ abbrev pub told : {A : Type 0} → Result A ReadFault → Option Fault
 told (Ok x) = None
 told (Err f) = Some (numbers f)
 
--- the fault that an optional answer tells
-abbrev pub told_some : Option ReadFault → Option Fault
-told_some None = None
-told_some (Some f) = Some (numbers f)
-
 -- an entry that is not below its limit, placed from an offset on
 abbrev pub entry_fault : List ℕ → ℕ → ℕ → ℕ → Option Fault
 entry_fault entries limit offset i = unless (nat_lt (byte entries i) limit) (fault 4 (offset + i))

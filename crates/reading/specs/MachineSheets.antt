@@ -60,14 +60,17 @@ target_place s i = 8 + s.states + 2 * s.moves + 2 * i
 abbrev pub before : ℕ → ℕ → ℕ → ℕ → Bool
 before key target key' target' = nat_lt key key' || (key == key' && nat_lt target target')
 
--- a field out of range, in field order
-abbrev pub field_fault : ℕ → ℕ → ℕ → ℕ → ℕ → Option Fault
-field_fault n k m start moves =
+-- a size or a start out of range, in field order
+abbrev pub frame_fault : ℕ → ℕ → ℕ → ℕ → Option Fault
+frame_fault n k m start =
     first_some (unless (within 1 256 n) (fault 2 0))
     (first_some (unless (within 1 4 k) (fault 2 2))
     (first_some (unless (within 1 4 m) (fault 2 3))
-    (first_some (unless (nat_lt start n) (fault 2 4))
-    (unless (nat_le moves 4096) (fault 2 6)))))
+    (unless (nat_lt start n) (fault 2 4))))
+
+-- a field out of range: the number of moves comes last
+abbrev pub field_fault : ℕ → ℕ → ℕ → ℕ → ℕ → Option Fault
+field_fault n k m start moves = first_some (frame_fault n k m start) (unless (nat_le moves 4096) (fault 2 6))
 
 -- labels are 0 to 7, from byte 8 on
 abbrev pub label_fault : Sheet → ℕ → Option Fault

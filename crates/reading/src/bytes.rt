@@ -2,7 +2,7 @@ ghost use Rattle.std.specs.Prelude.{◌^◌, ◌≡◌, ◌≤◌, ◌&&◌, ◌
 ghost use Rattle.reading.specs.Bytes.{byte, pair, bit};
 ghost use Rattle.reading.specs.Faults.{length_place};
 
-/// A byte, or 0 past the end.
+/// A byte, or 0 past the end: the formats ask for bytes that a sheet may not have.
 pub fn byte_at(bytes: &[u8], i: usize) -> u8
     ensures { result ≡ byte bytes.now i }
 {

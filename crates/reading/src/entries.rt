@@ -9,7 +9,9 @@ pub(crate) fn check_entries(entries: &[u8], limit: u8, offset: u16) -> Result<()
     requires { offset + length entries.now < 65536 }
     ensures { told result ≡ first_below (length entries.now) (entry_fault entries.now limit offset) }
 {
+    // A loop of its own: with a closure for the test, each caller would show what it answers at each index.
     for (i, entry) in entries.iter().enumerate() {
+        // the index, since a fault names its place, which fits by the length
         check(*entry < limit, ReadFault::Entry(offset + i as u16))?;
     }
     Ok(())

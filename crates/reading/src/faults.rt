@@ -1,11 +1,12 @@
 mod numbers;
 
-ghost use Rattle.std.specs.Prelude.{◌≡◌, Some};
-ghost use Rattle.reading.specs.Firsts.{unless};
-ghost use Rattle.reading.specs.Faults.{numbers, printed, told};
+ghost use Rattle.std.specs.Prelude.{◌≡◌, Some, Ok, Err, cond};
+ghost use Rattle.reading.specs.Faults.{numbers, printed};
 
 use std::error::Error;
 use std::fmt;
+
+// A length stands as its place where a fault is made, `Size(length_place(bytes))`: a name for it would say no more.
 
 /// Why bytes are no sheet, with the place of the first byte that is wrong.
 #[derive(Clone, Copy, PartialEq, Eq, Debug)]
@@ -37,8 +38,8 @@ impl fmt::Display for ReadFault {
 impl Error for ReadFault {}
 
 /// The fault, unless the test holds.
-pub fn check(test: bool, fault: ReadFault) -> Result<(), ReadFault>
-    ensures { told result ≡ unless test (numbers fault) }
+pub fn check<F: Drop>(test: bool, fault: F) -> Result<(), F>
+    ensures { result ≡ cond test (Ok tt) (Err fault) }
 {
     if test { Ok(()) } else { Err(fault) }
 }

@@ -23,6 +23,8 @@ impl PhaseTable {
         self.sizes
     }
 
+    // A table hands on what its sizes say, as a deal does.
+
     /// How many phases there are.
     pub fn phases(&self) -> u8
         ensures { result ≡ self.now.sizes.phases }

@@ -1,6 +1,8 @@
 mod read;
 
-ghost use Rattle.std.specs.Prelude.{◌≡◌};
+ghost use Rattle.std.specs.Prelude.{◌+◌, ◌*◌, ◌≡◌};
+
+// No `Option`: both questions of a record promise these numbers, which are the format's own.
 
 /// No choice, as the format writes it.
 pub const NO_CHOICE: u8 = 255;
@@ -11,6 +13,7 @@ pub const NO_RANK: u16 = 65_535;
 /// A controller record that was read: its sizes, and the parts of the bytes that hold choices and ranks.
 #[derive(Clone, Copy)]
 pub struct Record<'a> {
+    // public sizes, and no facts about them: a fact would ask more of who sets one
     pub states: u16,
     pub phases: u8,
     pub signals: u8,
@@ -24,6 +27,29 @@ pub struct Record<'a> {
 pub struct Position {
     pub state: u16,
     pub phase: u8,
+}
+
+impl Position {
+    /// Its place in a list by states, then by so many phases.
+    pub fn place(&self, phases: u8) -> usize
+        ensures { result ≡ self.now.state * phases + self.now.phase }
+    {
+        usize::from(self.state) * usize::from(phases) + usize::from(self.phase)
+    }
+}
+
+/// How many positions there are, of so many states and phases.
+pub fn places(states: u16, phases: u8) -> usize
+    ensures { result ≡ states * phases }
+{
+    usize::from(states) * usize::from(phases)
+}
+
+/// How long a record is: four bytes of sizes, then one for each choice and two for each rank.
+pub fn length(states: u16, phases: u8) -> usize
+    ensures { result ≡ 4 + 3 * (states * phases) }
+{
+    4 + 3 * places(states, phases)
 }
 
 impl<'a> Record<'a> {

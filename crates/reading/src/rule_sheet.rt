@@ -1,6 +1,6 @@
 mod read;
 
-ghost use Rattle.std.specs.Prelude.{◌^◌, ◌<◌, ◌≡◌, ◌≤◌};
+ghost use Rattle.std.specs.Prelude.{◌*◌, ◌^◌, ◌<◌, ◌≡◌, ◌≤◌, nat_le};
 ghost use Rattle.reading.specs.Limits.{AllBelow};
 
 /// A rule sheet that was read: a deterministic Büchi automaton over labels, and the labels that are forbidden.
@@ -17,6 +17,13 @@ pub struct RuleSheet {
     ghost accepts: { accepting < 2 ^ states },
     ghost starts: { start < states },
     ghost closed: { AllBelow states next },
+}
+
+/// Whether a machine of so many states can be watched by an automaton of so many: a product has at most 256.
+pub fn can_watch(states: u16, automaton: u8) -> bool
+    ensures { result ≡ nat_le (states * automaton) 256 }
+{
+    u32::from(states) * u32::from(automaton) <= 256
 }
 
 impl RuleSheet {

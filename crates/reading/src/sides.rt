@@ -2,7 +2,7 @@ ghost use Rattle.std.specs.Prelude.{◌≡◌};
 ghost use Rattle.reading.specs.Sides.{pick};
 
 /// A value for each of the two sides of a bay: the first is side 0's, the second side 1's.
-/// A side is a number: 0, or any other for side 1.
+/// A side is a number, 0 or any other for side 1: any may be handed in, and an enum would ask more of callers.
 #[derive(Clone, Copy, PartialEq, Eq, Debug)]
 pub struct Sides<T> {
     pub first: T,
@@ -10,6 +10,8 @@ pub struct Sides<T> {
 }
 
 impl<T: Copy> Sides<T> {
+    // Own and partner are one line each, the other way round.
+
     /// A side's own value; any side but 0 is side 1.
     pub fn own(&self, side: u8) -> T
         ensures { result ≡ pick side self.now.first self.now.second }

@@ -1,4 +1,4 @@
-pub(crate) mod judge;
+mod judge;
 
 use games::deal::Terms;
 use reading::sides::Sides;

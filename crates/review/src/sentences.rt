@@ -1,8 +1,8 @@
 use crate::cases::Case;
-use crate::cases::judge::phase_table;
 use crate::refusals::Refusal;
 use checking::faults::CheckFault;
 use games::deal::talk::TalkFault;
+use reading::phase_table::PhaseTable;
 use reading::records::{NO_CHOICE, NO_RANK, Position, Record};
 use std::fmt::{self, Formatter, Write};
 
@@ -86,7 +86,7 @@ impl Sentence<'_> {
     fn phase_after(&self, tick: Tick) -> u8 {
         let Tick { at, partner } = tick;
         let own = self.choice(at);
-        match phase_table(self.case.table) {
+        match PhaseTable::parse(self.case.table) {
             Ok(table) if self.case.side == 0 => table.next(at.phase, own, partner),
             Ok(table) => table.next(at.phase, partner, own),
             // a table that is refused has no phase after, and nothing is checked under it

@@ -1,12 +1,14 @@
 ghost use Rattle.std.specs.Prelude.{◌≡◌};
+ghost use Rattle.reading.specs.Firsts.{first_below};
 ghost use Rattle.reading.specs.Records.{parts_of};
 ghost use Rattle.checking.specs.Arenas.{playing};
 ghost use Rattle.checking.specs.Faults.{refused};
-ghost use Rattle.checking.specs.Checks.{put, sized, keeps, next_fault, partner_fault, position_fault, plan_fault};
+ghost use Rattle.checking.specs.Checks.{put, sized, keeps, next_fault, partner_fault, kept_fault, position_fault, positions_fault, plan_fault};
 
 use crate::faults::CheckFault;
 use crate::seat::Seat;
 use games::machine::{Game, Machine};
+use reading::faults::check;
 use reading::records::{NO_CHOICE, NO_RANK, Position, Record};
 
 /// A plan put forward for a seat.
@@ -44,71 +46,89 @@ impl<G: Game> Candidate<'_, G> {
         }
         let phase = self.seat.follow(at.phase, own, partner);
         let then = Position { state: next, phase };
-        if !self.keeps(then) {
-            return Err(CheckFault::NextAbsent { at, partner, next });
-        }
-        if !self.seat.game.goal(at.state) && self.plan.rank(then) >= self.plan.rank(at) {
-            return Err(CheckFault::NotLower { at, partner, next });
-        }
-        Ok(())
+        let kept = self.keeps(then);
+        check(kept, CheckFault::NextAbsent { at, partner, next })?;
+        let lower = self.seat.game.goal(at.state) || self.plan.rank(then) < self.plan.rank(at);
+        check(lower, CheckFault::NotLower { at, partner, next })
     }
 
-    /// Checks under a partner signal, if it is relied on, next state by next state.
-    fn check_partner(&self, at: Position, partner: u8) -> Result<(), CheckFault>
-        ensures { refused result ≡ partner_fault (playing G.Machine.meaning G.Game.marks self.now.seat) (put self.now) at.state at.phase partner }
+    /// Checks next state by next state.
+    fn check_nexts(&self, at: Position, partner: u8) -> Result<(), CheckFault>
+        ensures { refused result ≡ first_below (G.Machine.meaning self.now.seat.game.now).states (next_fault (playing G.Machine.meaning G.Game.marks self.now.seat) (put self.now) at.state at.phase partner) }
     {
-        if !self.seat.relied(at.phase, partner) {
-            return Ok(());
-        }
-        if !self.seat.has_next(at.state, self.plan.choice(at), partner) {
-            return Err(CheckFault::NoNext { at, partner });
-        }
         for next in 0..self.seat.game.states() {
             self.check_next(at, partner, next)?;
         }
         Ok(())
     }
 
-    /// Checks a position, and there partner signal by partner signal.
-    fn check_position(&self, at: Position) -> Result<(), CheckFault>
-        ensures { refused result ≡ position_fault (playing G.Machine.meaning G.Game.marks self.now.seat) (put self.now) at.state at.phase }
+    /// Checks under a partner signal, if it is relied on.
+    fn check_partner(&self, at: Position, partner: u8) -> Result<(), CheckFault>
+        ensures { refused result ≡ partner_fault (playing G.Machine.meaning G.Game.marks self.now.seat) (put self.now) at.state at.phase partner }
     {
-        let choice = self.plan.choice(at);
-        let rank = self.plan.rank(at);
-        if (choice == NO_CHOICE) != (rank == NO_RANK) {
-            return Err(CheckFault::HalfKept(at));
-        }
-        if choice == NO_CHOICE {
+        if !self.seat.relied(at.phase, partner) {
             return Ok(());
         }
-        if self.seat.game.forbidden(at.state) {
-            return Err(CheckFault::Forbidden(at));
-        }
-        if !self.seat.promised(at.phase, choice) {
-            return Err(CheckFault::NotPromised(at));
-        }
-        if self.seat.game.goal(at.state) != (rank == 0) {
-            return Err(CheckFault::GoalRank(at));
-        }
+        let goes_on = self.seat.has_next(at.state, self.plan.choice(at), partner);
+        check(goes_on, CheckFault::NoNext { at, partner })?;
+        self.check_nexts(at, partner)
+    }
+
+    /// Checks partner signal by partner signal.
+    fn check_partners(&self, at: Position) -> Result<(), CheckFault>
+        ensures { refused result ≡ first_below (G.Machine.meaning self.now.seat.game.now).partner (partner_fault (playing G.Machine.meaning G.Game.marks self.now.seat) (put self.now) at.state at.phase) }
+    {
         for partner in 0..self.seat.game.partner() {
             self.check_partner(at, partner)?;
         }
         Ok(())
     }
 
-    /// Checks the start, then position by position: a fault is the first.
-    pub(crate) fn check(&self) -> Result<(), CheckFault>
-        ensures { refused result ≡ plan_fault (playing G.Machine.meaning G.Game.marks self.now.seat) (put self.now) }
+    /// Checks what a kept position says for itself: its state, its choice, its rank.
+    fn check_kept(&self, at: Position) -> Result<(), CheckFault>
+        ensures { refused result ≡ kept_fault (playing G.Machine.meaning G.Game.marks self.now.seat) (put self.now) at.state at.phase }
     {
-        let state = self.seat.game.start();
-        if !self.keeps(Position { state, phase: 0 }) {
-            return Err(CheckFault::StartAbsent { state });
+        let forbidden = self.seat.game.forbidden(at.state);
+        check(!forbidden, CheckFault::Forbidden(at))?;
+        let promised = self.seat.promised(at.phase, self.plan.choice(at));
+        check(promised, CheckFault::NotPromised(at))?;
+        let fits = self.seat.game.goal(at.state) == (self.plan.rank(at) == 0);
+        check(fits, CheckFault::GoalRank(at))
+    }
+
+    /// Checks a position.
+    fn check_position(&self, at: Position) -> Result<(), CheckFault>
+        ensures { refused result ≡ position_fault (playing G.Machine.meaning G.Game.marks self.now.seat) (put self.now) at.state at.phase }
+    {
+        let no_choice = self.plan.choice(at) == NO_CHOICE;
+        let no_rank = self.plan.rank(at) == NO_RANK;
+        check(no_choice == no_rank, CheckFault::HalfKept(at))?;
+        if no_choice {
+            return Ok(());
         }
+        self.check_kept(at)?;
+        self.check_partners(at)
+    }
+
+    /// Checks position by position.
+    fn check_positions(&self) -> Result<(), CheckFault>
+        ensures { refused result ≡ positions_fault (playing G.Machine.meaning G.Game.marks self.now.seat) (put self.now) }
+    {
         for state in 0..self.seat.game.states() {
             for phase in 0..self.seat.table.phases() {
                 self.check_position(Position { state, phase })?;
             }
         }
         Ok(())
+    }
+
+    /// Checks the start, then every position: a fault is the first.
+    pub(crate) fn check(&self) -> Result<(), CheckFault>
+        ensures { refused result ≡ plan_fault (playing G.Machine.meaning G.Game.marks self.now.seat) (put self.now) }
+    {
+        let state = self.seat.game.start();
+        let starts = self.keeps(Position { state, phase: 0 });
+        check(starts, CheckFault::StartAbsent { state })?;
+        self.check_positions()
     }
 }

@@ -12,6 +12,7 @@ use reading::records::Position;
 /// Stands for a value that does not apply: a refusal is published as its number and four such values.
 const NONE: u16 = 65_535;
 
+// Published in numbers: 65,535 stands for what does not apply.
 impl CheckFault {
     /// The refusal's number.
     pub fn number(&self) -> u8

@@ -22,12 +22,11 @@ impl Ranking {
         })
     }
 
-    /// The entry of a position.
+    /// The entry of a position; absent where there is no place for it.
     pub(crate) fn entry(&self, at: Position) -> Entry
-        requires { 8 * at.state + at.phase < 2048 }
         ensures { result ≡ slice_index_or self.now.entries.items (8 * at.state + at.phase) absent }
     {
-        self.entries[place(at)]
+        self.entries.get(place(at)).copied().unwrap_or(ABSENT)
     }
 
     /// Gives a position its entry.

@@ -31,6 +31,7 @@ impl Ranking {
         ensures stops { result ≡ false → Layers (played seat.now) self.new depth (depth + 1) }
         ensures zeros { zeros self.new ≡ zeros self.old }
     {
+        // loops, since a chain would hold the ranking that they change
         // a copy: positions of this layer lead into the layers below, not into each other
         let mut next = self.ranked;
         for phase in 0..seat.table.phases() {

@@ -30,6 +30,7 @@ impl Ranking {
         ensures after { Attracted (played seat.now) self.new 1 }
         ensures zeros { zeros self.new ≤ zeros self.old }
     {
+        // loops, since a chain would hold the ranking that they change
         for phase in 0..seat.table.phases() {
             let mut set = StateSet::empty();
             for state in 0..seat.game.states() {
@@ -86,6 +87,7 @@ impl Ranking {
         ensures { Stable (played seat.now) (ranks_in (played seat.now) self.new) (choices_in (played seat.now) self.new) }
     {
         self.begin(seat);
+        // until a round gives nothing up
         loop {
             self.reset(seat);
             self.attract(seat);

@@ -7,7 +7,7 @@ ghost use Rattle.checking.specs.Solving.{Holds, Wrote};
 use crate::ranking::{Entry, Ranking};
 use crate::seat::Seat;
 use crate::snapshot::Snapshot;
-use reading::records::Position;
+use reading::records::{Position, places};
 
 /// Two bytes of a number, the low byte first.
 fn put_pair(buffer: &mut [u8], place: usize, number: u16)
@@ -40,15 +40,15 @@ impl Ranking {
     {
         let states = seat.game.states();
         let phases = seat.table.phases();
-        let size = usize::from(states) * usize::from(phases);
+        let size = places(states, phases);
         put_pair(buffer, 0, states);
         buffer[2] = phases;
         buffer[3] = seat.game.own();
+        // two loops that fill: places are states by phases
         for state in 0..states {
             for phase in 0..phases {
-                let place = usize::from(state) * usize::from(phases) + usize::from(phase);
-                let entry = self.entry(Position { state, phase });
-                put_entry(buffer, size, place, entry);
+                let at = Position { state, phase };
+                put_entry(buffer, size, at.place(phases), self.entry(at));
             }
         }
     }

@@ -34,7 +34,7 @@ impl<G: Machine> Seat<'_, G> {
     fn place(&self, at: Position) -> usize
         ensures { result ≡ at.state * self.now.table.now.sizes.phases + at.phase }
     {
-        usize::from(at.state) * usize::from(self.table.phases()) + usize::from(at.phase)
+        at.place(self.table.phases())
     }
 
     /// Where it starts: in phase 0.

@@ -5,6 +5,7 @@ ghost use Rattle.checking.specs.Snapshots.{snap_move, snap_forbidden, snap_goal}
 use crate::snapshot::{SIGNALS, Snapshot, place};
 use crate::state_set::StateSet;
 
+// A snapshot is no game: it keeps no labels, which a machine has to answer.
 impl Snapshot {
     /// How many states there are.
     pub(crate) fn states(&self) -> u16

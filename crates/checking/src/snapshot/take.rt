@@ -24,6 +24,7 @@ fn fill_rows<G: Machine>(game: &G, rows: &mut Vec<StateSet>)
     ensures rows { (s x b t : ℕ) → s < (G.Machine.meaning game.now).states → x < 4 → b < 4 → member (row_of rows.new.items s x b) t ≡ (G.Machine.meaning game.now).move s x b t }
     ensures long { vec_len rows.new ≡ 4096 }
 {
+    // loops that fill: a place is a state and two signals
     for state in 0..game.states() {
         for own in 0..SIGNALS {
             for partner in 0..SIGNALS {

@@ -21,6 +21,7 @@ impl StateSet {
         ensures below { (t : ℕ) → t < states → F.post test t (member result t) }
         ensures above { (t : ℕ) → states ≤ t → member result t ≡ false }
     {
+        // a loop that fills, of one line
         let mut set = StateSet::empty();
         for state in 0..states {
             if test(state) {

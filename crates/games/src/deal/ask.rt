@@ -14,6 +14,8 @@ impl Deal {
         self.sizes
     }
 
+    // A deal hands on what its sizes say, as a phase table does.
+
     /// How many phases it has.
     pub fn phases(&self) -> u8
         ensures { result ≡ self.now.sizes.phases }
@@ -27,6 +29,8 @@ impl Deal {
     {
         self.sizes.signals.own(side)
     }
+
+    // Promise and reliance are the two words of a deal: one function would take which is meant.
 
     /// What a side promises; any side but 0 is side 1.
     pub fn promise(&self, side: u8) -> u32

@@ -27,6 +27,7 @@ fn copy_moves(moves: &mut Vec<Move>, sheet: &MachineSheet)
     ensures room { vec_capacity moves.old ≤ vec_capacity moves.new }
 {
     moves.clear();
+    // one line, for which there is room: `extend` would ask for some
     for i in 0..sheet.moves() {
         moves.push_reserved(sheet.entry(i));
     }

@@ -2,7 +2,7 @@ ghost use Rattle.std.specs.Prelude.{◌<◌, ◌≡◌, is_ok, IfOk, Some, Decid
 ghost use Rattle.reading.specs.Firsts.{first_below};
 ghost use Rattle.reading.specs.Bytes.{byte};
 ghost use Rattle.reading.specs.Faults.{numbers, told};
-ghost use Rattle.reading.specs.MachineSheets.{sheet_in, sheet_of, key_at, target_at, field_fault, move_fault, head_fault, machine_fault, Headed, Lawful};
+ghost use Rattle.reading.specs.MachineSheets.{sheet_in, sheet_of, key_at, target_at, frame_fault, move_fault, head_fault, machine_fault, Headed, Lawful};
 
 use crate::bytes::{byte_at, length_place, pair_at};
 use crate::entries::check_entries;
@@ -10,16 +10,15 @@ use crate::faults::{ReadFault, check};
 use crate::machine_sheet::{Frame, MachineSheet, Move};
 
 impl Frame {
-    /// The sizes in the fields of a sheet with that many moves, or the first that is out of range.
-    fn new(states: u16, own: u8, partner: u8, start: u16, moves: u16) -> Result<Frame, ReadFault>
-        ensures first { told result ≡ field_fault states own partner start moves }
+    /// The sizes in the fields of a sheet, or the first that is out of range.
+    fn new(states: u16, own: u8, partner: u8, start: u16) -> Result<Frame, ReadFault>
+        ensures first { told result ≡ frame_fault states own partner start }
         ensures value { IfOk result (λ f. (f.states ≡ states) × (f.own ≡ own) × (f.partner ≡ partner) × (f.start ≡ start)) }
     {
         check((1..=256).contains(&states), ReadFault::Field(0))?;
         check((1..=4).contains(&own), ReadFault::Field(2))?;
         check((1..=4).contains(&partner), ReadFault::Field(3))?;
         check(start < states, ReadFault::Field(4))?;
-        check(moves <= 4096, ReadFault::Field(6))?;
         Ok(Frame {
             states,
             own,
@@ -39,7 +38,8 @@ fn cut(bytes: &[u8]) -> Result<MachineSheet<'_>, ReadFault>
     let states = u16::from_le_bytes([*n0, *n1]);
     let start = u16::from_le_bytes([*s0, *s1]);
     let moves = u16::from_le_bytes([*e0, *e1]);
-    let frame = Frame::new(states, *own, *partner, start, moves)?;
+    let frame = Frame::new(states, *own, *partner, start)?;
+    check(moves <= 4096, ReadFault::Field(6))?;
     let size = usize::from(states) + 4 * usize::from(moves);
     check(rest.len() == size, ReadFault::Size(length_place(bytes)))?;
     let (labels, entries) = rest.split_at(usize::from(states));
@@ -110,6 +110,7 @@ impl<'a> MachineSheet<'a> {
     fn check_moves(&self) -> Result<(), ReadFault>
         ensures { told result ≡ first_below self.now.moves (move_fault (sheet_of self.now)) }
     {
+        // the index, since a fault names its place
         for i in 0..self.moves {
             self.check_move(i)?;
         }

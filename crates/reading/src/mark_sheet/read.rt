@@ -12,6 +12,7 @@ use crate::mark_sheet::MarkSheet;
 fn fits_at(byte: u8, states: u16, j: usize) -> bool
     ensures { result ≡ nat_lt byte (2 ^ (states - 8 * (j % 32))) }
 {
+    // what is left of a division fits
     fits(byte, states.saturating_sub(8 * (j % 32) as u16))
 }
 
@@ -20,6 +21,7 @@ fn check_strays(bytes: &[u8], states: u16) -> Result<(), ReadFault>
     requires { length bytes.now ≡ 64 }
     ensures { told result ≡ first_below (length bytes.now) (stray_fault states bytes.now) }
 {
+    // the index, since a fault names its place, which fits by the length
     for (j, byte) in bytes.iter().enumerate() {
         check(fits_at(*byte, states, j), ReadFault::Entry(j as u16))?;
     }
@@ -32,6 +34,7 @@ fn check_clashes(forbidden: &[u8], goals: &[u8]) -> Result<(), ReadFault>
     requires alike { length goals.now ≡ 32 }
     ensures { told result ≡ first_below (length forbidden.now) (clash_fault forbidden.now goals.now) }
 {
+    // by index: of `zip` under `enumerate` the loop has no index for its invariant (tried)
     for (j, byte) in forbidden.iter().enumerate() {
         check(*byte & goals[j] == 0, ReadFault::Clash(j as u16))?;
     }
@@ -43,6 +46,7 @@ fn contains(set: &[u8; 32], state: u16) -> bool
     ensures { result ≡ marked set.now state }
 {
     let j = usize::from(state / 8);
+    // what is left of a division fits
     j < 32 && has_bit(set[j], (state % 8) as u8)
 }
 
@@ -78,6 +82,8 @@ impl MarkSheet {
             goals,
         })
     }
+
+    // Two questions in the format's own words: one function would take which is meant.
 
     /// Whether a state is marked forbidden.
     pub fn forbidden(&self, state: u16) -> bool

@@ -8,23 +8,6 @@ use crate::faults::{ReadFault, check};
 use crate::phase_table::PhaseTable;
 use crate::sizes::Sizes;
 
-/// The table in the bytes, or their first fault.
-fn parse(bytes: &[u8]) -> Result<PhaseTable, ReadFault>
-    ensures first { told result ≡ phase_fault bytes.now }
-    ensures value { IfOk result (λ t. table_of t ≡ table_in bytes.now) }
-{
-    let [phases, signals0, signals1, rest @ ..] = bytes else {
-        return Err(ReadFault::Short(length_place(bytes)));
-    };
-    let sizes = Sizes::new(*phases, *signals0, *signals1)?;
-    let size = usize::from(*phases) * usize::from(*signals0) * usize::from(*signals1);
-    check(rest.len() == size, ReadFault::Size(length_place(bytes)))?;
-    check_entries(rest, *phases, 3)?;
-    let mut entries = [0; 128];
-    put_front(&mut entries, rest);
-    Ok(PhaseTable { sizes, entries })
-}
-
 impl PhaseTable {
     /// One phase, one signal each way, entry 0.
     pub fn new() -> PhaseTable
@@ -36,13 +19,31 @@ impl PhaseTable {
         }
     }
 
+    /// The table in the bytes, or their first fault.
+    pub fn parse(bytes: &[u8]) -> Result<PhaseTable, ReadFault>
+        ensures first { told result ≡ phase_fault bytes.now }
+        ensures value { IfOk result (λ t. table_of t ≡ table_in bytes.now) }
+        ensures lawful { Decides (is_ok result) (Lawful bytes.now) }
+    {
+        let [phases, signals0, signals1, rest @ ..] = bytes else {
+            return Err(ReadFault::Short(length_place(bytes)));
+        };
+        let sizes = Sizes::new(*phases, *signals0, *signals1)?;
+        let size = usize::from(*phases) * usize::from(*signals0) * usize::from(*signals1);
+        check(rest.len() == size, ReadFault::Size(length_place(bytes)))?;
+        check_entries(rest, *phases, 3)?;
+        let mut entries = [0; 128];
+        put_front(&mut entries, rest);
+        Ok(PhaseTable { sizes, entries })
+    }
+
     /// Replaces the table by the one in the bytes; on a refusal it stays as it was.
     pub fn read(&mut self, bytes: &[u8]) -> Result<(), ReadFault>
         ensures first { told result ≡ phase_fault bytes.now }
         ensures value { MatchResult result (λ _. table_of self.new ≡ table_in bytes.now) (λ _. self.new ≡ self.old) }
         ensures lawful { Decides (is_ok result) (Lawful bytes.now) }
     {
-        *self = parse(bytes)?;
+        *self = PhaseTable::parse(bytes)?;
         Ok(())
     }
 

@@ -5,7 +5,7 @@ ghost use Rattle.reading.specs.Records.{parts_in, parts_of, inside, choice_at, r
 
 use crate::bytes::{byte_at, length_place, pair_at};
 use crate::faults::{ReadFault, check};
-use crate::records::{NO_CHOICE, NO_RANK, Position, Record};
+use crate::records::{NO_CHOICE, NO_RANK, Position, Record, length, places};
 
 /// The first size out of range is a fault.
 fn check_fields(states: u16, phases: u8, signals: u8) -> Result<(), ReadFault>
@@ -22,6 +22,7 @@ fn check_choices(choices: &[u8], signals: u8) -> Result<(), ReadFault>
     ensures { told result ≡ first_below (length choices.now) (choice_fault choices.now signals) }
 {
     for (i, choice) in choices.iter().enumerate() {
+        // the index, since a fault names its place, which fits by the length
         let fits = *choice < signals || *choice == NO_CHOICE;
         check(fits, ReadFault::Entry(4 + i as u16))?;
     }
@@ -40,9 +41,9 @@ impl<'a> Record<'a> {
         };
         let states = u16::from_le_bytes([*low, *high]);
         check_fields(states, *phases, *signals)?;
-        let size = usize::from(states) * usize::from(*phases);
-        check(rest.len() == 3 * size, ReadFault::Size(length_place(bytes)))?;
-        let (choices, ranks) = rest.split_at(size);
+        let size = length(states, *phases);
+        check(bytes.len() == size, ReadFault::Size(length_place(bytes)))?;
+        let (choices, ranks) = rest.split_at(places(states, *phases));
         check_choices(choices, *signals)?;
         Ok(Record {
             states,
@@ -60,19 +61,14 @@ impl<'a> Record<'a> {
         at.state < self.states && at.phase < self.phases
     }
 
-    /// Where a position stands among the choices, and among the ranks.
-    fn place(&self, at: Position) -> usize
-        ensures { result ≡ at.state * self.now.phases + at.phase }
-    {
-        usize::from(at.state) * usize::from(self.phases) + usize::from(at.phase)
-    }
+    // Choice and rank are two questions in the format's own words: one function would take which is meant.
 
     /// The signal to show; 255 where there is none.
     pub fn choice(&self, at: Position) -> u8
         ensures { result ≡ choice_at (parts_of self.now) at.state at.phase }
     {
         if self.inside(at) {
-            byte_at(self.choices, self.place(at))
+            byte_at(self.choices, at.place(self.phases))
         } else {
             NO_CHOICE
         }
@@ -83,7 +79,7 @@ impl<'a> Record<'a> {
         ensures { result ≡ rank_at (parts_of self.now) at.state at.phase }
     {
         if self.inside(at) {
-            pair_at(self.ranks, 2 * self.place(at))
+            pair_at(self.ranks, 2 * at.place(self.phases))
         } else {
             NO_RANK
         }
@@ -105,6 +101,7 @@ impl<'a> Record<'a> {
     pub fn bound(&self) -> u16
         ensures { result ≡ bound_of (parts_of self.now) }
     {
+        // 32 bits, so that twice a place is a place too; `usize::from` takes none
         (0..u32::from(self.states) * u32::from(self.phases))
             .map(|place| self.kept_rank(place as usize))
             .max()

@@ -5,7 +5,7 @@ ghost use Rattle.reading.specs.RuleSheets.{automaton_in, automaton_of, blank, ne
 use crate::bytes::{fits, has_bit, length_place, put_front};
 use crate::entries::check_entries;
 use crate::faults::{ReadFault, check};
-use crate::rule_sheet::RuleSheet;
+use crate::rule_sheet::{RuleSheet, can_watch};
 
 /// The first field out of range is a fault.
 fn check_fields(states: u8, accepting: u8, start: u8) -> Result<(), ReadFault>
@@ -43,8 +43,7 @@ impl RuleSheet {
         let size = 8 * usize::from(*count);
         check(rest.len() == size, ReadFault::Size(length_place(bytes)))?;
         check_entries(rest, *count, 4)?;
-        let product = u32::from(states) * u32::from(*count);
-        check(product <= 256, ReadFault::TooLarge)?;
+        check(can_watch(states, *count), ReadFault::TooLarge)?;
         let mut next = [0; 64];
         put_front(&mut next, rest);
         Ok(RuleSheet {
@@ -55,6 +54,8 @@ impl RuleSheet {
             next,
         })
     }
+
+    // Two questions in the format's own words: one function would take which is meant.
 
     /// Whether a state of the automaton is accepting.
     pub fn accepting(&self, state: u8) -> bool

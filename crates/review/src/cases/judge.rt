@@ -1,6 +1,5 @@
 ghost use Rattle.std.specs.Prelude.{◌≡◌, IfOk};
-ghost use Rattle.reading.specs.Faults.{told as told_read};
-ghost use Rattle.reading.specs.PhaseTables.{phase_fault, table_in, table_of};
+ghost use Rattle.reading.specs.PhaseTables.{table_of};
 ghost use Rattle.review.specs.Verdicts.{game_line, Plays, terms_line, refused, told, Dealt, early_line, Judged};
 
 use crate::cases::Case;
@@ -10,19 +9,8 @@ use games::deal::talk::Talk;
 use games::deal::{Deal, Terms};
 use games::sheet_machine::SheetMachine;
 use games::watched::Watched;
-use reading::faults::ReadFault;
 use reading::phase_table::PhaseTable;
 use reading::sides::Sides;
-
-/// The phase table in the bytes, or their first fault.
-pub(crate) fn phase_table(bytes: &[u8]) -> Result<PhaseTable, ReadFault>
-    ensures first { told_read result ≡ phase_fault bytes.now }
-    ensures value { IfOk result (λ t. table_of t ≡ table_in bytes.now) }
-{
-    let mut table = PhaseTable::new();
-    table.read(bytes)?;
-    Ok(table)
-}
 
 /// The deal that both sides sign on a table, or why there is none.
 fn sign(table: &PhaseTable, terms: Sides<Terms>) -> Result<Deal, Refusal>
@@ -72,7 +60,7 @@ impl Case<'_> {
         ensures { Judged (early_line self.now) self.now (told result) }
     {
         let game = self.game(machine)?;
-        let table = phase_table(self.table).map_err(Refusal::Table)?;
+        let table = PhaseTable::parse(self.table).map_err(Refusal::Table)?;
         let deal = sign(&table, self.terms)?;
         check(&game, &table, &deal, self.side, self.record).map_err(Refusal::Check)
     }

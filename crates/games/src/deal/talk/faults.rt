@@ -15,6 +15,7 @@ impl fmt::Display for TalkFault {
 
 impl Error for TalkFault {}
 
+// Published in numbers: 65,535 and 2 stand for what does not apply.
 impl TalkFault {
     /// The refusal's number.
     pub fn number(&self) -> u8

@@ -5,6 +5,7 @@ ghost use Rattle.games.specs.Deals.{told, told_gap, terms_fault, gap_at, first_g
 use crate::deal::talk::{Bid, Reply, Talk, TalkFault};
 use crate::deal::{Deal, Terms};
 use crate::sets::inside;
+use reading::faults::check;
 use reading::phase_table::PhaseTable;
 use reading::sides::Sides;
 
@@ -13,13 +14,10 @@ fn check_phase(terms: &Sides<Terms>, phase: u8) -> Result<(), TalkFault>
     ensures { told_gap result ≡ gap_at terms.now.first terms.now.second phase }
 {
     let Sides { first, second } = terms;
-    if !inside(first.promise, second.reliance, phase) {
-        return Err(TalkFault::TooFar { phase, side: 0 });
-    }
-    if !inside(second.promise, first.reliance, phase) {
-        return Err(TalkFault::TooFar { phase, side: 1 });
-    }
-    Ok(())
+    let kept0 = inside(first.promise, second.reliance, phase);
+    check(kept0, TalkFault::TooFar { phase, side: 0 })?;
+    let kept1 = inside(second.promise, first.reliance, phase);
+    check(kept1, TalkFault::TooFar { phase, side: 1 })
 }
 
 /// Checks phase by phase that neither side promises too much.
@@ -51,6 +49,7 @@ impl Talk {
         ensures words { Decides (is_ok result) (AreTerms self.sizes.phases self.sizes.signals.first self.sizes.signals.second terms) }
     {
         if !terms.suit(&self.sizes, 0) {
+            // beside the talk, which goes back and can stand in one place only
             return Err((self, TalkFault::NotTerms));
         }
         Ok(Bid { talk: self, terms })

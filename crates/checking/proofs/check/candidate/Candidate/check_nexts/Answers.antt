@@ -1,12 +1,8 @@
 use Rattle.std.proofs.Common.{rules}
-use Rattle.reading.proofs.FirstLaws.{none_more}
 use Rattle.checking.proofs.CheckLaws.{stops_below}
-use Rattle.checking.proofs.check.candidate.Candidate.check_partner.Goals as goal
+use Rattle.checking.proofs.check.candidate.Candidate.check_nexts.Goals as goal
 
 pub returns-in_err-check_next : goal.returns-in_err-check_next
 returns-in_err-check_next g c =
     let h = stops_below _ _ _ _ _ _ c.from_residual.ensures.1 c.states-next-end.ensures c.loop-next-test.true c.loop-next.invariant c.in_err-check_next.ensures in
     search rules
-
-pub loop-next-preserved : goal.loop-next-preserved
-loop-next-preserved g c = search (rules, none_more)
