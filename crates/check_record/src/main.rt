@@ -23,7 +23,7 @@ usage: check_record --help     this text
 /// At most this much of a file is read: no sheet is as long, and no place is above it.
 const MOST: u64 = 65_535;
 
-/// What the words after the program's name say: names of files, and numbers.
+/// What the words after the program's name say: names of files, and numbers. A case has bytes where this has names.
 #[derive(Clone, Copy)]
 struct Arguments<'a> {
     machine: &'a str,
@@ -60,6 +60,7 @@ impl<'a> Arguments<'a> {
     }
 }
 
+/// What comes, up to a limit: each program has its own, and they share no crate.
 fn read(heap: Global, from: impl Read + Drop) -> io::Result<Vec<u8>> {
     let mut bytes = Vec::new(heap);
     from.take(MOST).read_to_end(&mut bytes)?;

@@ -277,6 +277,6 @@ pruning_stable a old z p flag l end i f =
 pub zero_least : (a : Arena) (b : Bounded a) (l : List Entry) (n : ℕ) (v : Entry) → v.rank ≡ 0 → 2048 ≤ n → l ≡ replicate n v → Least a (λ s p. (held a l s p).rank)
 zero_least a b l n v e long all r w s p k =
     let i = w.inside s p k in
-    let there : held a l s p ≡ v = held_in a l s p i.0 i.1 ∙ ap (λ y. get_or y (8 * s + p) absent) all ∙ get_or-replicate n (8 * s + p) v absent (omega (arith, long, i.0, i.1, b.few_states, b.few_phases)) in
+    let there : held a l s p ≡ v = held_in a l s p i.0 i.1 ∙ ap (λ y. get_or y (s * 8 + p) absent) all ∙ get_or-replicate n (s * 8 + p) v absent (omega (arith, long, i.0, i.1, b.few_states, b.few_phases)) in
     let zero : (held a l s p).rank ≡ 0 = ap (λ (y : Entry). y.rank) there ∙ e in
     omega (arith, zero)

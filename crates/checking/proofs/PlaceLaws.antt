@@ -7,7 +7,7 @@ use Rattle.checking.specs.declared.ranking.Ranking.{Ranking}
 use Rattle.checking.specs.Arenas.{Arena}
 use Rattle.checking.specs.Solving.{absent, held, Bounded, Before, Written, ranks_in, zeros}
 
-pub held_in : (a : Arena) (l : List Entry) (s p : ℕ) → s < a.states → p < a.phases → held a l s p ≡ get_or l (8 * s + p) absent
+pub held_in : (a : Arena) (l : List Entry) (s p : ℕ) → s < a.states → p < a.phases → held a l s p ≡ get_or l (s * 8 + p) absent
 unfolding held
 held_in a l s p hs hp = rw (lt-ltb s a.states hs, lt-ltb p a.phases hp)
 
@@ -45,29 +45,29 @@ module _ (a : Arena) (F : ℕ → ℕ → Type 0) where
 
 module _ (a : Arena) (b : Bounded a) (s p : ℕ) (hs : s < a.states) (hp : p < a.phases) where
   -- one position stands at a place
-  same : (t q : ℕ) → q < a.phases → 8 * t + q ≡ 8 * s + p → (t ≡ s) × (q ≡ p)
+  same : (t q : ℕ) → q < a.phases → t * 8 + q ≡ s * 8 + p → (t ≡ s) × (q ≡ p)
   same t q hq e = let f = b.few_phases in (omega arith, omega arith)
 
-  inside : (z : Ranking) → 8 * s + p < length (vec_items z.entries)
+  inside : (z : Ranking) → s * 8 + p < length (vec_items z.entries)
   inside z = omega (arith, b.few_phases, b.few_states, z.entries.ok.0, z.many)
 
-  pub rank_here : (z : Ranking) → ranks_in a z s p ≡ (get_or (vec_items z.entries) (8 * s + p) absent).rank
+  pub rank_here : (z : Ranking) → ranks_in a z s p ≡ (get_or (vec_items z.entries) (s * 8 + p) absent).rank
   rank_here z = ap (λ e. e.rank) (held_in a (vec_items z.entries) s p hs hp)
 
   -- an entry that was read
-  pub rank_read : (z : Ranking) (e : Entry) → e ≡ get_or (vec_items z.entries) (8 * s + p) absent → ranks_in a z s p ≡ e.rank
+  pub rank_read : (z : Ranking) (e : Entry) → e ≡ get_or (vec_items z.entries) (s * 8 + p) absent → ranks_in a z s p ≡ e.rank
   rank_read z e r = rank_here z ∙ ap (λ y. y.rank) (sym r)
 
-  module _ (old new : Ranking) (v : Entry) (e : vec_items new.entries ≡ set (vec_items old.entries) (8 * s + p) v) where
+  module _ (old new : Ranking) (v : Entry) (e : vec_items new.entries ≡ set (vec_items old.entries) (s * 8 + p) v) where
     set_here : held a (vec_items new.entries) s p ≡ v
-    set_here = let lt = inside old in held_in a (vec_items new.entries) s p hs hp ∙ ap (λ l. get_or l (8 * s + p) absent) e ∙ rw get_or-set_same
+    set_here = let lt = inside old in held_in a (vec_items new.entries) s p hs hp ∙ ap (λ l. get_or l (s * 8 + p) absent) e ∙ rw get_or-set_same
 
     set_there : (t q : ℕ) → (held a (vec_items new.entries) t q ≡ held a (vec_items old.entries) t q) ⊎ ((t ≡ s) × (q ≡ p))
     set_there t q = elim (held_or a t q) [
       | inl o ↦ inl (o.1 (vec_items new.entries) ∙ sym (o.1 (vec_items old.entries)))
-      | inr i ↦ elim (cases_eq (8 * t + q) (8 * s + p)) [
+      | inr i ↦ elim (cases_eq (t * 8 + q) (s * 8 + p)) [
         | inl n ↦ inr (same t q i.1 n)
-        | inr n ↦ inl (held_in a (vec_items new.entries) t q i.0 i.1 ∙ ap (λ l. get_or l (8 * t + q) absent) e ∙ (rw get_or-set_other (sym (held_in a (vec_items old.entries) t q i.0 i.1))))
+        | inr n ↦ inl (held_in a (vec_items new.entries) t q i.0 i.1 ∙ ap (λ l. get_or l (t * 8 + q) absent) e ∙ (rw get_or-set_other (sym (held_in a (vec_items old.entries) t q i.0 i.1))))
       ]
     ]
 
@@ -84,9 +84,9 @@ module _ (a : Arena) (b : Bounded a) (s p : ℕ) (hs : s < a.states) (hp : p < a
     -- zeros before and after a write
     counted : zeros new + cond (eqb (ranks_in a old s p) 0) 1 0 ≡ zeros old + cond (eqb v.rank 0) 1 0
     counted =
-        let w = sum_by-set (λ (x : Entry). cond (eqb x.rank 0) 1 0) (vec_items old.entries) (8 * s + p) v absent (inside old) in
+        let w = sum_by-set (λ (x : Entry). cond (eqb x.rank 0) 1 0) (vec_items old.entries) (s * 8 + p) v absent (inside old) in
         ap (λ k. count_by (λ (x : Entry). eqb x.rank 0) k + cond (eqb (ranks_in a old s p) 0) 1 0) e
-        ∙ ap (λ k. count_by (λ (x : Entry). eqb x.rank 0) (set (vec_items old.entries) (8 * s + p) v) + cond (eqb k 0) 1 0) (rank_here old) ∙ (omega (arith, w))
+        ∙ ap (λ k. count_by (λ (x : Entry). eqb x.rank 0) (set (vec_items old.entries) (s * 8 + p) v) + cond (eqb k 0) 1 0) (rank_here old) ∙ (omega (arith, w))
 
     one : (x : ℕ) → x ≡ 0 → ◌≡◌ {A = ℕ} (cond (eqb x 0) 1 0) 1
     one x h = rw (eq-eqb x 0 h)

@@ -1,9 +1,9 @@
 -- Sets of states that a loop gathers, and the snapshot that is made of them.
-use Rattle.std.proofs.Common.{◌≡◌, ℕ, ◌+◌, ◌/◌, ◌%◌, ◌<◌, ◌≤◌, Bool, true, false, ◌&&◌, ◌||◌, eqb, ltb, ◌⊎◌, List, get_or, sym, ap, ◌∙◌, subst, inl, inr, arith}
+use Rattle.std.proofs.Common.{◌≡◌, ℕ, ◌+◌, ◌<◌, ◌≤◌, Bool, true, false, ◌&&◌, ◌||◌, eqb, ltb, ◌⊎◌, List, sym, ap, ◌∙◌, subst, inl, inr, arith}
 use Rattle.std.proofs.lemmas.Bool.{eq-eqb, ne_eqb, lt-ltb, le-ltb, lt-leb, le-leb, cases_lt, cases_eq, cases_Bool, ltb-true, and_parts, and_from}
 use Rattle.games.specs.Machines.{Model, Marks, Lawful, forbidden_in, goal_in}
 use Rattle.checking.specs.declared.state_set.StateSet.{StateSet}
-use Rattle.checking.specs.StateSets.{member, nothing}
+use Rattle.checking.specs.StateSets.{member}
 use Rattle.checking.specs.Snapshots.{row_of, rows_move, set_forbidden, set_goal}
 
 -- of the states below i a set has those that pass, and it has no other
@@ -41,7 +41,7 @@ no_move m w s x b t n = elim (cases_Bool (m.move s x b t)) [
   | inr e ↦ e
 ]
 
-module _ (n : ℕ) (rows : List StateSet) (s x b : ℕ) where
+module _ (n : ℕ) (rows : List (List (List StateSet))) (s x b : ℕ) where
   -- in range, a move is in its row
   pub move_row : s < n → x < 4 → b < 4 → (t : ℕ) → rows_move n rows s x b t ≡ member (row_of rows s x b) t
   move_row hs hx hb t = ap (λ c. c && member (row_of rows s x b) t) (and_from _ _ (lt-ltb s n hs) (and_from _ _ (lt-ltb x 4 hx) (lt-ltb b 4 hb)))
@@ -53,12 +53,12 @@ module _ (n : ℕ) (rows : List StateSet) (s x b : ℕ) where
       out (inl e) = let h = and_parts _ _ e in let k = and_parts _ _ h.1 in absurd (never (ltb-true s n h.0, ltb-true x 4 k.0, ltb-true b 4 k.1))
       out (inr e) = e
 
--- the rows below a place hold the moves
-abbrev pub Filled : Model → List StateSet → ℕ → Type 0
-Filled m rows k = (j : ℕ) → j < k → (t : ℕ) → member (get_or rows j nothing) t ≡ m.move (j / 16) (j % 16 / 4) (j % 16 % 4) t
+-- the rows of the states below k hold the moves
+abbrev pub Filled : Model → List (List (List StateSet)) → ℕ → Type 0
+Filled m rows k = (s x b t : ℕ) → s < k → x < 4 → b < 4 → member (row_of rows s x b) t ≡ m.move s x b t
 
 module _ (m : Model) (w : Lawful m) (n : ℕ) (e : n ≡ m.states) where
-  pub moves_taken : (rows : List StateSet) → ((s x b t : ℕ) → s < m.states → x < 4 → b < 4 → member (row_of rows s x b) t ≡ m.move s x b t) → (s x b t : ℕ) → rows_move n rows s x b t ≡ m.move s x b t
+  pub moves_taken : (rows : List (List (List StateSet))) → ((s x b t : ℕ) → s < m.states → x < 4 → b < 4 → member (row_of rows s x b) t ≡ m.move s x b t) → (s x b t : ℕ) → rows_move n rows s x b t ≡ m.move s x b t
   moves_taken rows filled s x b t = elim (cases_lt s m.states) [
     | inr h ↦ none (λ i. omega (arith, i.0))
     | inl hs ↦ elim (cases_lt x 4) [

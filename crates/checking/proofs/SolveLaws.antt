@@ -161,9 +161,9 @@ module _ (m : Model) (k : Marks) (t : PhaseTable) (d : Deal) (side : ℕ) (w : L
     lawful_written xs wr = lawful_xs m k t d side w (suits_from m t d side sized) r b st old xs size (over (λ a. Wrote a r xs) wr)
 
     -- by the entry that was read at the start
-    module _ (n : ℕ) (e : Entry) (es : n ≡ z.frame.start) (en : e ≡ get_or (vec_items r.entries) (8 * n + 0) absent) where
+    module _ (n : ℕ) (e : Entry) (es : n ≡ z.frame.start) (en : e ≡ get_or (vec_items r.entries) (n * 8 + 0) absent) where
       start_rank : ranks_in (arena m k t d side) r m.start 0 ≡ e.rank
-      start_rank = rank_read (arena m k t d side) b m.start 0 b.starts b.some_phase r e (en ∙ ap (λ i. get_or (vec_items r.entries) (8 * i + 0) absent) (es ∙ taken.start))
+      start_rank = rank_read (arena m k t d side) b m.start 0 b.starts b.some_phase r e (en ∙ ap (λ i. get_or (vec_items r.entries) (i * 8 + 0) absent) (es ∙ taken.start))
 
       pub none_found : e.rank ≡ 65535 → Refused m k t d side old 23
       none_found h = inr (head_none m k t d side (length old) (suits_from m t d side sized) size, refl, nothing_controls m k t d side w (suits_from m t d side sized) r b st (omega (arith, h, start_rank)))

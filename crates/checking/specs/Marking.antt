@@ -5,7 +5,9 @@ use Rattle.reading.specs.Bytes.{byte}
 use Rattle.reading.specs.declared.phase_table.PhaseTable.{PhaseTable}
 use Rattle.reading.specs.declared.records.Position.{Position}
 use Rattle.games.specs.declared.deal.Deal.{Deal}
+use Rattle.games.specs.declared.machine.Machine.{Ghosts}
 use Rattle.games.specs.Machines.{Model}
+use Rattle.checking.specs.declared.reach.Marks.{Marks}
 use Rattle.checking.specs.Arenas.{promised, relied, follow}
 use Rattle.checking.specs.Reach.{Reached}
 
@@ -24,6 +26,12 @@ pub record Marked (P : ℕ → Type 0) (old new : List ℕ) : Type 0 where
 -- the place of a reached position
 abbrev pub ReachedAt : Model → PhaseTable → Deal → ℕ → ℕ → Type 0
 ReachedAt m t d side i = Reached m t d side (i / t.sizes.phases) (i % t.sizes.phases)
+
+-- marks of a seat before and after: seat and reference are the same, and a mark that is new is at a reached position
+pub record Grown {G : Type 0} {g : Ghosts G} (old new : Marks G g) : Type 0 where
+  pub seat : new.seat ≡ old.seat
+  pub reference : new.bytes.ghost_name ≡ old.bytes.ghost_name
+  pub marked : Marked (ReachedAt (g.meaning old.seat.game.now) old.seat.table.now old.seat.deal.now old.seat.side) old.bytes.now new.bytes.now
 
 -- whatever comes next after a position under two signals is marked
 abbrev pub Moved : Model → PhaseTable → ℕ → List ℕ → ℕ → ℕ → ℕ → ℕ → Type 0

@@ -103,7 +103,7 @@ absent = record { rank = 65535; choice = 255 }
 
 -- what entries hold of each position, eight places to a state, and otherwise nothing
 unfoldable pub held : Arena → List Entry → ℕ → ℕ → Entry
-held a l s p = cond (nat_lt s a.states) (cond (nat_lt p a.phases) (slice_index_or l (8 * s + p) absent) absent) absent
+held a l s p = cond (nat_lt s a.states) (cond (nat_lt p a.phases) (slice_index_or l (s * 8 + p) absent) absent) absent
 
 abbrev pub ranks_in : Arena → Ranking → ℕ → ℕ → ℕ
 ranks_in a z s p = (held a (vec_items z.entries) s p).rank

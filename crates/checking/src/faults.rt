@@ -70,6 +70,8 @@ impl fmt::Display for CheckFault {
 
 impl Error for CheckFault {}
 
+// Each fault prints its number in a line of its own impl: a trait of refusals would need the same lines.
+
 /// Why there is no solved record.
 #[derive(Clone, Copy, PartialEq, Eq, Debug)]
 pub enum SolveFault {

@@ -15,7 +15,7 @@ pub(crate) struct Entry {
     pub(crate) choice: u8,
 }
 
-/// The entry of a position that is not ranked: it is written to a record as it is, and its rank is above any other.
+/// The entry of a position that is not ranked, written to a record as it is: an `Option` would be turned into these two numbers.
 const ABSENT: Entry = Entry {
     rank: NO_RANK,
     choice: NO_CHOICE,
@@ -24,9 +24,9 @@ const ABSENT: Entry = Entry {
 /// Ranks and choices on the way to a solution, eight places to a state, and for each phase the set of ranked states.
 #[derive(Drop)]
 pub(crate) struct Ranking {
-    // one piece for the largest game, so that solving takes no memory
+    // one piece for the largest game, so that solving takes no memory; by places, as a record has them
     entries: Vec<Entry>,
-    // one for each phase that there can be: the next states of a position are compared with a set by words
+    // one for each phase that there can be, kept beside the entries: the next states of a position are compared with a set by words
     ranked: [StateSet; 8],
     ghost many: { vec_len entries ≡ 2048 },
     ghost eight: { length ranked ≡ 8 },

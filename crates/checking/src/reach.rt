@@ -1,6 +1,7 @@
-mod marks;
+mod mark;
 
-ghost use Rattle.checking.specs.Reach.{Reaches};
+ghost use Rattle.std.specs.Prelude.{◌≡◌, length};
+ghost use Rattle.checking.specs.Reach.{places, Reaches};
 
 use crate::faults::ReachFault;
 use crate::seat::Seat;
@@ -9,6 +10,14 @@ use games::machine::{Game, Machine};
 use reading::faults::check;
 use reading::phase_table::PhaseTable;
 use reading::records::places;
+
+/// The marks of a seat's positions on the way, a byte for each.
+#[derive(Drop)]
+struct Marks<'a, G: Machine> {
+    seat: Seat<'a, G>,
+    bytes: &'a mut [u8],
+    ghost long: { length bytes.now ≡ places (G.Machine.meaning seat.game.now) seat.table.now },
+}
 
 /// Writes 1 at the place of each position that can come up for a side, and 0 at every other. Of P phases, state s in phase p has place s × P + p.
 pub fn reach<G: Game>(
@@ -29,6 +38,10 @@ pub fn reach<G: Game>(
     check(seat.suits(), ReachFault::Sizes)?;
     let size = places(game.states(), table.phases());
     check(buffer.len() == size, ReachFault::Buffer)?;
-    seat.mark_reached(buffer);
+    let mut marks = Marks {
+        seat,
+        bytes: buffer,
+    };
+    marks.mark_reached();
     Ok(())
 }

@@ -7,7 +7,7 @@ use reading::phase_table::PhaseTable;
 /// One side's place at a bay: its game, under a phase table and a deal.
 #[derive_where(Clone, Copy)]
 pub(crate) struct Seat<'a, G> {
-    // four parameters of the public calls, since each is to be had by itself
+    // the public calls take these four by themselves: their shape is settled
     pub(crate) game: &'a G,
     pub(crate) table: &'a PhaseTable,
     pub(crate) deal: &'a Deal,

@@ -1,7 +1,7 @@
 mod ask;
 mod take;
 
-ghost use Rattle.std.specs.Prelude.{◌<◌, ◌+◌, ◌*◌, ◌≡◌, ◌≤◌, vec_len};
+ghost use Rattle.std.specs.Prelude.{◌≡◌, vec_len};
 
 use crate::state_set::StateSet;
 use reading::machine_sheet::Frame;
@@ -14,15 +14,8 @@ pub(crate) const SIGNALS: u8 = 4;
 pub(crate) struct Snapshot {
     frame: Frame,
     // one piece for the largest game, so that solving takes no memory
-    rows: Vec<StateSet>,
+    rows: Vec<[[StateSet; 4]; 4]>,
     forbidden: StateSet,
     goals: StateSet,
-    ghost rows_long: { vec_len rows ≡ 4096 },
-}
-
-/// Where the row for a state and two signals stands: sixteen rows a state, four for each own signal.
-fn place(state: u16, own: u8, partner: u8) -> usize
-    ensures { result ≡ 16 * state + 4 * own + partner }
-{
-    16 * usize::from(state) + 4 * usize::from(own) + usize::from(partner)
+    ghost rows_long: { vec_len rows ≡ 256 },
 }

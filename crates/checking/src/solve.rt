@@ -22,7 +22,7 @@ pub struct Workspace {
 impl Workspace {
     /// Room for the largest game: 256 states with 16 pairs of signals, 2,048 positions.
     pub fn new(heap: Global) -> Result<Workspace, AllocError>
-        ensures { IfOk result (λ w. (vec_len w.snapshot.rows ≡ 4096) × (vec_len w.ranking.entries ≡ 2048)) }
+        ensures { IfOk result (λ w. (vec_len w.snapshot.rows ≡ 256) × (vec_len w.ranking.entries ≡ 2048)) }
     {
         Ok(Workspace {
             snapshot: Snapshot::new(heap)?,
@@ -32,11 +32,11 @@ impl Workspace {
 }
 
 /// Writes the solved record for a side into the buffer and answers its bound, or why there is none.
-pub fn solve<'a, G: Game>(
+pub fn solve<G: Game>(
     workspace: &mut Workspace,
-    game: &'a G,
-    table: &'a PhaseTable,
-    deal: &'a Deal,
+    game: &G,
+    table: &PhaseTable,
+    deal: &Deal,
     side: u8,
     buffer: &mut [u8],
 ) -> Result<u16, SolveFault>

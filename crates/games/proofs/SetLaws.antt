@@ -122,9 +122,6 @@ has_from w set p j e =
     let l = bit_below (row w set p) w j (row_low w set p) e in
     and_from (ltb j w) (bit set (w * p + j)) (lt-ltb j w l) (sym (row_bit w set p j l) ∙ e)
 
-pub has_not : (w set p j : ℕ) → (has w set p j ≡ true → ⊥) → false ≡ has w set p j
-has_not w set p j f = elim (cases_Bool (has w set p j)) [ inl e ↦ absurd (f e) | inr e ↦ sym e ]
-
 -- a set whose rows end before a phase has nothing from there on
 pub has_ends : (w set p j n : ℕ) → set < 2 ^ (w * n) → has w set p j ≡ true → p < n
 has_ends w set p j n l e = elim (cases_lt p n) [

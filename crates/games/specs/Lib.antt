@@ -9,3 +9,5 @@ pub mod Terms
 pub mod Deals
 pub mod Products
 pub mod LiftLaws
+pub mod Signings
+pub mod WatchedSheets

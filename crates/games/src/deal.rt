@@ -1,4 +1,5 @@
 mod ask;
+pub mod signing;
 mod suit;
 pub mod talk;
 

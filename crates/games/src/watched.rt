@@ -1,4 +1,6 @@
-ghost use Rattle.std.specs.Prelude.{◌≡◌, MatchResult, OnOk};
+pub mod sheets;
+
+ghost use Rattle.std.specs.Prelude.{◌/◌, ◌%◌, ◌≡◌, MatchResult, OnOk};
 ghost use Rattle.reading.specs.Faults.{told};
 ghost use Rattle.reading.specs.RuleSheets.{automaton_in, automaton_of, blank, rule_fault};
 ghost use Rattle.games.specs.Layers.{fitting, watched, product, watch_marks};
@@ -7,7 +9,7 @@ ghost use Rattle.games.specs.Products.{watched_lawful};
 
 use crate::machine::{Game, Machine};
 use reading::faults::ReadFault;
-use reading::rule_sheet::{RuleSheet, can_watch};
+use reading::rule_sheet::{Pair, RuleSheet, can_watch};
 
 /// Any machine watched by an automaton that reads the labels of the states entered.
 #[derive(Drop)]
@@ -37,6 +39,14 @@ impl<M: Machine + Drop> Watched<M> {
         } else {
             RuleSheet::new()
         }
+    }
+
+    /// A state as the state below and what the automaton in force has read.
+    pub fn pair(&self, state: u16) -> Pair
+        ensures below { result.below ≡ state / (fitting (M.Machine.meaning self.now.below) (automaton_of self.now.rule)).states }
+        ensures read { result.read ≡ state % (fitting (M.Machine.meaning self.now.below) (automaton_of self.now.rule)).states }
+    {
+        self.in_force().pair(state)
     }
 
     /// Takes over the automaton of a rule sheet; on a refusal it stays as it was.
@@ -79,22 +89,15 @@ impl<M: Machine + Drop> Machine for Watched<M> {
     }
 
     fn label(&self, state: u16) -> u8 {
-        let rule = self.in_force();
-        self.below.label(state / u16::from(rule.states()))
+        self.below.label(self.pair(state).below)
     }
 
     fn may_move(&self, state: u16, own: u8, partner: u8, next: u16) -> bool {
         let rule = self.in_force();
-        let count = u16::from(rule.states());
-        if !self
-            .below
-            .may_move(state / count, own, partner, next / count)
-        {
-            return false;
-        }
-        let entered = self.below.label(next / count);
-        // a state of the automaton fits a byte
-        next % count == u16::from(rule.next((state % count) as u8, entered))
+        let (from, to) = (rule.pair(state), rule.pair(next));
+        let entered = self.below.label(to.below);
+        let moves = self.below.may_move(from.below, own, partner, to.below);
+        moves && to.read == rule.next(from.read, entered)
     }
 }
 
@@ -107,7 +110,6 @@ impl<M: Machine + Drop> Game for Watched<M> {
 
     fn goal(&self, state: u16) -> bool {
         let rule = self.in_force();
-        // a state of the automaton fits a byte
-        state < self.states() && rule.accepting((state % u16::from(rule.states())) as u8)
+        state < self.states() && rule.accepting(rule.pair(state).read)
     }
 }

@@ -24,6 +24,7 @@ const USAGE: &str = "usage: inspect KIND < SHEET
 /// At most this much is read: no sheet is as long, and no place is above it.
 const MOST: u64 = 65_535;
 
+/// What comes, up to a limit: each program has its own, and they share no crate.
 fn read(heap: Global, from: impl Read + Drop) -> io::Result<Vec<u8>> {
     let mut bytes = Vec::new(heap);
     from.take(MOST).read_to_end(&mut bytes)?;

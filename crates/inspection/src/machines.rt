@@ -1,4 +1,4 @@
-ghost use Rattle.std.specs.Prelude.{◌≤◌, IfOk, string_bytes};
+ghost use Rattle.std.specs.Prelude.{IfOk, string_bytes};
 ghost use Rattle.games.specs.Lifts.{lift_fault};
 ghost use Rattle.inspection.specs.Refusals.{Tells, product_fault};
 
@@ -10,6 +10,7 @@ use games::machine::{Game, Machine, frame};
 use games::sheet_machine::SheetMachine;
 use games::watched::Watched;
 use reading::faults::ReadFault;
+use reading::rule_sheet::Pair;
 use std::alloc::{AllocError, Global};
 use std::fmt::{self, Formatter, Write};
 
@@ -44,20 +45,15 @@ fn write_moves<W: Write, M: Machine>(f: &mut Formatter<W>, machine: &M, state: u
     Ok(())
 }
 
-/// A machine watched by an automaton with `count` states, in words.
-#[derive(Drop)]
-struct WatchedWords<'a, G> {
-    game: &'a G,
-    count: u16,
-    ghost some: { 1 ≤ count },
-}
+/// A machine watched by an automaton, in words.
+#[derive(Clone, Copy)]
+struct WatchedWords<'a>(&'a Watched<SheetMachine>);
 
-impl<G: Game> WatchedWords<'_, G> {
+impl WatchedWords<'_> {
     /// A state: the state below, the automaton's state, the label and the marks.
     fn write_state<W: Write>(&self, f: &mut Formatter<W>, state: u16) -> fmt::Result {
-        let WatchedWords { game, count } = *self;
-        let below = state / count;
-        let read = state % count;
+        let game = self.0;
+        let Pair { below, read } = game.pair(state);
         let label = game.label(state);
         let goal = if game.goal(state) { ", goal" } else { "" };
         let forbidden = if game.forbidden(state) {
@@ -73,11 +69,11 @@ impl<G: Game> WatchedWords<'_, G> {
     }
 }
 
-impl<G: Game> fmt::Display for WatchedWords<'_, G> {
+impl fmt::Display for WatchedWords<'_> {
     fn fmt<W: Write>(&self, f: &mut Formatter<W>) -> fmt::Result {
-        let sizes = FrameWords(frame(self.game));
+        let sizes = FrameWords(frame(self.0));
         writeln!(f, "machine watched by an automaton\n{sizes}")?;
-        for state in 0..self.game.states() {
+        for state in 0..self.0.states() {
             self.write_state(f, state)?;
         }
         Ok(())
@@ -128,6 +124,5 @@ pub fn product(heap: Global, machine: &[u8], rule: &[u8]) -> Result<String, Allo
     if let Err(fault) = game.watch(rule) {
         return refusal(heap, fault, Sentence::new(Kind::Rule(states), rule, fault));
     }
-    let count = game.states() / states;
-    WatchedWords { game: &game, count }.to_string(heap)
+    WatchedWords(&game).to_string(heap)
 }

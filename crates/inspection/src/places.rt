@@ -86,6 +86,8 @@ pub(crate) struct Step {
     pub label: u8,
 }
 
+// A step and a position are cells by other names, each for its own sentence.
+
 /// The step whose next state stands at a place of a rule sheet.
 pub(crate) fn rule_step(place: u16) -> Step
     ensures whole { 4 ≤ place → 4 + (result.state * 8 + result.label) ≡ place }

@@ -7,7 +7,7 @@ use crate::places::{
     Part, Source, Step, machine_part, marked_state, phase_source, record_position, rule_step,
 };
 use crate::sheets::LIMIT;
-use reading::bytes::byte_at;
+use reading::bytes::{byte_at, pair_at};
 use reading::faults::ReadFault;
 use reading::records::Position;
 use std::alloc::{AllocError, Global};
@@ -98,14 +98,7 @@ impl Sentence<'_> {
 
     /// The part of a machine sheet at a place, by the sizes in its fields.
     fn part(&self, place: u16) -> Part {
-        let (states, moves) = match self.bytes {
-            [n0, n1, _, _, _, _, e0, e1, ..] => (
-                u16::from_le_bytes([*n0, *n1]),
-                u16::from_le_bytes([*e0, *e1]),
-            ),
-            _ => (0, 0),
-        };
-        machine_part(place, states, moves)
+        machine_part(place, pair_at(self.bytes, 0), pair_at(self.bytes, 6))
     }
 
     /// A label, a key or a target out of range.

@@ -10,7 +10,7 @@ pub fn byte_at(bytes: &[u8], i: usize) -> u8
 }
 
 /// A two-byte number, the low byte first; bytes past the end are 0.
-pub(crate) fn pair_at(bytes: &[u8], i: usize) -> u16
+pub fn pair_at(bytes: &[u8], i: usize) -> u16
     ensures { result ≡ pair bytes.now i }
 {
     u16::from_le_bytes([byte_at(bytes, i), byte_at(bytes, i.saturating_add(1))])

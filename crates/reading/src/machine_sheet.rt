@@ -18,6 +18,23 @@ pub struct Frame {
     ghost starts: { start < states },
 }
 
+impl Frame {
+    /// One state, one signal each way.
+    pub fn least() -> Frame
+        ensures states { result.states ≡ 1 }
+        ensures own { result.own ≡ 1 }
+        ensures partner { result.partner ≡ 1 }
+        ensures start { result.start ≡ 0 }
+    {
+        Frame {
+            states: 1,
+            own: 1,
+            partner: 1,
+            start: 0,
+        }
+    }
+}
+
 /// A machine sheet that was read: its sizes, and the parts of the bytes that hold labels, keys and targets.
 #[derive(Clone, Copy)]
 pub struct MachineSheet<'a> {

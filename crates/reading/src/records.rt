@@ -13,7 +13,7 @@ pub const NO_RANK: u16 = 65_535;
 /// A controller record that was read: its sizes, and the parts of the bytes that hold choices and ranks.
 #[derive(Clone, Copy)]
 pub struct Record<'a> {
-    // public sizes, and no facts about them: a fact would ask more of who sets one
+    // no facts about the sizes: what is asked of a record is answered for any
     pub states: u16,
     pub phases: u8,
     pub signals: u8,

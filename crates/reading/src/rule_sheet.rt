@@ -1,6 +1,6 @@
 mod read;
 
-ghost use Rattle.std.specs.Prelude.{◌*◌, ◌^◌, ◌<◌, ◌≡◌, ◌≤◌, nat_le};
+ghost use Rattle.std.specs.Prelude.{◌*◌, ◌/◌, ◌%◌, ◌^◌, ◌<◌, ◌≡◌, ◌≤◌, nat_le};
 ghost use Rattle.reading.specs.Limits.{AllBelow};
 
 /// A rule sheet that was read: a deterministic Büchi automaton over labels, and the labels that are forbidden.
@@ -19,6 +19,13 @@ pub struct RuleSheet {
     ghost closed: { AllBelow states next },
 }
 
+/// A state of a machine that an automaton watches: the machine's own state, and what the automaton has read.
+#[derive(Clone, Copy, PartialEq, Eq, Debug)]
+pub struct Pair {
+    pub below: u16,
+    pub read: u8,
+}
+
 /// Whether a machine of so many states can be watched by an automaton of so many: a product has at most 256.
 pub fn can_watch(states: u16, automaton: u8) -> bool
     ensures { result ≡ nat_le (states * automaton) 256 }
@@ -32,6 +39,19 @@ impl RuleSheet {
         ensures { result ≡ self.now.states }
     {
         self.states
+    }
+
+    /// A state of the watched machine, which is the state below times the automaton's states and what it has read.
+    pub fn pair(&self, state: u16) -> Pair
+        ensures below { result.below ≡ state / self.now.states }
+        ensures read { result.read ≡ state % self.now.states }
+    {
+        let count = u16::from(self.states);
+        Pair {
+            below: state / count,
+            // what is left of a division fits
+            read: (state % count) as u8,
+        }
     }
 
     /// The automaton's start.

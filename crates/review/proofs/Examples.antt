@@ -5,15 +5,16 @@ use Rattle.reading.specs.PhaseTables.{Table}
 use Rattle.reading.specs.declared.sides.Sides.{Sides}
 use Rattle.reading.specs.declared.faults.ReadFault.TheVariants.{Entry}
 use Rattle.games.specs.declared.deal.Terms.{Terms}
+use Rattle.games.specs.declared.watched.sheets.SheetsFault.TheVariants.{Rule}
 use Rattle.checking.specs.declared.faults.CheckFault.TheVariants.{Reading, NotLower}
 use Rattle.checking.specs.Checks.{at}
 use Rattle.review.specs.declared.cases.Case.{Case}
-use Rattle.review.specs.declared.refusals.Refusal.TheVariants.{Rule, Check}
+use Rattle.review.specs.declared.refusals.Refusal.TheVariants.{Sheets, Check}
 use Rattle.review.specs.Verdicts.{line, terms_line, early_line}
 use Rattle.review.specs.Reviews.{Says}
 
 -- a fault of bytes has its place in print, the record's too; a fault of the check has its number alone
-lines : (line (Rule (Entry 12)) ≡ codes "refused 4 at byte 12")
+lines : (line (Sheets (Rule (Entry 12))) ≡ codes "refused 4 at byte 12")
     × (line (Check (Reading (Entry 7))) ≡ codes "refused 4 at byte 7")
     × (line (Check (NotLower (at 2 0) 1 0)) ≡ codes "refused 19")
 unfolding digits

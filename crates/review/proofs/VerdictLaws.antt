@@ -10,11 +10,12 @@ use Rattle.games.specs.Listings.{sheet_model}
 use Rattle.games.specs.Layers.{watched, watch_marks}
 use Rattle.checking.specs.Checks.{check_answer}
 use Rattle.review.specs.declared.cases.Case.{Case}
-use Rattle.review.specs.Verdicts.{check_line, game_line, terms_line, early_line, Dealt, Judged}
+use Rattle.games.specs.Signings.{Dealt}
+use Rattle.review.specs.Verdicts.{check_line, sheets_line, terms_line, early_line, Judged}
 
 -- nothing is refused before the check
 pub record Read (c : Case) (t : PhaseTable) : Type 0 where
-  pub game : game_line c ≡ None
+  pub game : sheets_line c.machine.now c.rule.now ≡ None
   pub phases : phase_fault c.table.now ≡ None
   pub table : table_of t ≡ table_in c.table.now
   pub terms : terms_line (table_of t) c.terms ≡ None
@@ -25,7 +26,7 @@ none_early c t r =
     rw (r.game, r.phases, d) refl
 
 pub judged : (c : Case) (t : PhaseTable) (d : Deal) (m : Model) (a : Automaton) (v : Result ℕ (List ℕ)) →
-    Read c t → Dealt t c.terms d → m ≡ sheet_model c.machine.now → a ≡ automaton_in c.rule.now →
+    Read c t → Dealt t.sizes c.terms d → m ≡ sheet_model c.machine.now → a ≡ automaton_in c.rule.now →
     v ≡ result_map_both (λ b. b) check_line (check_answer (watched m a) (watch_marks m a) t d c.side c.record.now) →
     Judged (early_line c) c v
 judged c t d m a v r dealt means reads answer =

@@ -1,30 +1,28 @@
 -- What is found of a case: the first refusal as it is printed, or the record's bound.
 use Rattle.std.specs.Prelude.{◌≡◌, ℕ, List, ◌++◌, codes, decimal, Some, None, Err, Option, Result}
 use Rattle.std.specs.Option.{option_map, option_map_or}
-use Rattle.std.specs.Result.{result_map_both, result_err}
+use Rattle.std.specs.Result.{result_map_both}
 use Rattle.reading.specs.Firsts.{first_some}
 use Rattle.reading.specs.Faults.{printed}
 use Rattle.reading.specs.Faults.{numbers as read_numbers}
-use Rattle.reading.specs.MachineSheets.{sheet_in, machine_fault}
-use Rattle.reading.specs.RuleSheets.{automaton_in, automaton_of, rule_fault}
+use Rattle.reading.specs.RuleSheets.{automaton_in}
 use Rattle.reading.specs.PhaseTables.{Table, table_in, table_of, phase_fault}
 use Rattle.reading.specs.declared.phase_table.PhaseTable.{PhaseTable}
 use Rattle.reading.specs.declared.sides.Sides.{Sides}
 use Rattle.games.specs.declared.deal.Terms.{Terms}
 use Rattle.games.specs.declared.deal.Deal.{Deal}
-use Rattle.games.specs.declared.sheet_machine.SheetMachine.{SheetMachine}
-use Rattle.games.specs.declared.watched.Watched.{Watched}
 use Rattle.games.specs.Listings.{sheet_model}
-use Rattle.games.specs.SheetMachines.{machine_of}
 use Rattle.games.specs.Layers.{watched, watch_marks}
-use Rattle.games.specs.Deals.{terms_fault, first_gap}
-use Rattle.games.specs.Deals.{numbers as talk_numbers}
+use Rattle.games.specs.WatchedSheets.{Blame, blame, sheets_fault}
+use Rattle.games.specs.Deals.{Refusal as DealRefusal}
+use Rattle.games.specs.Signings.{Dealt, signing_fault}
+use Rattle.games.specs.Signings.{numbers as sign_numbers}
 use Rattle.checking.specs.Faults.{Refusal as CheckRefusal}
 use Rattle.checking.specs.Faults.{numbers as check_numbers}
 use Rattle.checking.specs.Checks.{check_answer}
 use Rattle.review.specs.declared.cases.Case.{Case}
 use Rattle.review.specs.declared.refusals.Refusal.{Refusal}
-use Rattle.review.specs.declared.refusals.Refusal.TheVariants.{Machine, Rule, Table as PhaseTableOf, Bid, Reply, Signing, Check}
+use Rattle.review.specs.declared.refusals.Refusal.TheVariants.{Sheets, Table as PhaseTableOf, Terms as Unagreed, Check}
 
 -- a refusal in print, by its number alone
 abbrev pub numbered : ℕ → List ℕ
@@ -36,51 +34,28 @@ check_line r = option_map_or printed r.reading (numbered r.number)
 
 -- a refusal in print; every promise about printed refusals reads this definition
 abbrev pub line : Refusal → List ℕ
-line (Machine f) = printed (read_numbers f)
-line (Rule f) = printed (read_numbers f)
+line (Sheets f) = printed (blame f).fault
 line (PhaseTableOf f) = printed (read_numbers f)
-line (Bid f) = numbered (talk_numbers f).number
-line (Reply f) = numbered (talk_numbers f).number
-line (Signing f) = numbered (talk_numbers f).number
+line (Unagreed f) = numbered (sign_numbers f).number
 line (Check f) = check_line (check_numbers f)
 
 -- what an answer tells: its value, or the refusal in print
 abbrev pub told : Result ℕ Refusal → Result ℕ (List ℕ)
 told = result_map_both (λ b. b) line
 
--- the refusal in an answer, none where it has a value
-abbrev pub refused : {A : Type 0} → Result A Refusal → Option (List ℕ)
-refused r = option_map line (result_err r)
+-- the refusal of the two sheets of a machine, and of both sides' terms on a table, in print
+abbrev pub sheets_line : List ℕ → List ℕ → Option (List ℕ)
+sheets_line sheet rule = option_map (λ (b : Blame). printed b.fault) (sheets_fault sheet rule)
 
--- the machine sheet is refused, or the rule sheet for its states
-abbrev pub game_line : Case → Option (List ℕ)
-game_line c = option_map printed
-    (first_some (machine_fault c.machine.now)
-    (rule_fault (sheet_in c.machine.now).states c.rule.now))
-
--- the first refusal of both sides' terms: side 0's are not as described, side 1's are not, a promise beyond the other's reliance
 abbrev pub terms_line : Table → Sides Terms → Option (List ℕ)
-terms_line t s = option_map (λ r. numbered r.number)
-    (first_some (terms_fault t.phases t.signals0 t.signals1 s.first)
-    (first_some (terms_fault t.phases t.signals1 t.signals0 s.second)
-    (first_gap t.phases s.first s.second)))
+terms_line t s = option_map (λ (r : DealRefusal). numbered r.number) (signing_fault t.phases t.signals0 t.signals1 s)
 
 -- the first refusal before any check: a sheet of the machine, the phase table, the terms
 abbrev pub early_line : Case → Option (List ℕ)
 early_line c =
-    first_some (game_line c)
+    first_some (sheets_line c.machine.now c.rule.now)
     (first_some (option_map printed (phase_fault c.table.now))
     (terms_line (table_in c.table.now) c.terms))
-
--- the game of a case: the machine of its sheet, watched by the automaton of its rule sheet
-pub record Plays (c : Case) (g : Watched SheetMachine) : Type 0 where
-  pub machine : machine_of g.below ≡ sheet_model c.machine.now
-  pub rule : automaton_of g.rule ≡ automaton_in c.rule.now
-
--- the deal that both sides sign on a table
-pub record Dealt (t : PhaseTable) (s : Sides Terms) (d : Deal) : Type 0 where
-  pub sizes : d.sizes ≡ t.sizes
-  pub terms : d.terms ≡ s
 
 -- what a check answers of the case's record, under a table and a deal: the machine of its sheet is watched by its rule sheet's automaton
 abbrev pub checked : Case → PhaseTable → Deal → Result ℕ (List ℕ)
@@ -92,7 +67,7 @@ pub record Checked (c : Case) (verdict : Result ℕ (List ℕ)) : Type 0 where
   pub table : PhaseTable
   pub deal : Deal
   pub read : table_of table ≡ table_in c.table.now
-  pub dealt : Dealt table c.terms deal
+  pub dealt : Dealt table.sizes c.terms deal
   pub answer : verdict ≡ checked c table deal
 
 -- a verdict on a case, by what is refused before any check

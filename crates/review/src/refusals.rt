@@ -2,7 +2,8 @@ ghost use Rattle.std.specs.Prelude.{◌≡◌, Some};
 ghost use Rattle.review.specs.Verdicts.{line};
 
 use checking::faults::CheckFault;
-use games::deal::talk::TalkFault;
+use games::deal::signing::Unsigned;
+use games::watched::sheets::SheetsFault;
 use reading::faults::ReadFault;
 use std::error::Error;
 use std::fmt;
@@ -10,15 +11,9 @@ use std::fmt;
 /// Why a case has no bound: what is refused, with its fault.
 #[derive(Clone, Copy, PartialEq, Eq, Debug)]
 pub enum Refusal {
-    Machine(ReadFault),
-    Rule(ReadFault),
+    Sheets(SheetsFault),
     Table(ReadFault),
-    /// Side 0's terms.
-    Bid(TalkFault),
-    /// Side 1's terms.
-    Reply(TalkFault),
-    /// Both sides' terms together.
-    Signing(TalkFault),
+    Terms(Unsigned),
     Check(CheckFault),
 }
 
@@ -27,12 +22,9 @@ impl fmt::Display for Refusal {
 
     fn fmt<W: fmt::Write>(&self, f: &mut fmt::Formatter<W>) -> fmt::Result {
         match self {
-            Refusal::Machine(fault) | Refusal::Rule(fault) | Refusal::Table(fault) => {
-                write!(f, "{fault}")
-            }
-            Refusal::Bid(fault) | Refusal::Reply(fault) | Refusal::Signing(fault) => {
-                write!(f, "{fault}")
-            }
+            Refusal::Sheets(fault) => write!(f, "{fault}"),
+            Refusal::Table(fault) => write!(f, "{fault}"),
+            Refusal::Terms(fault) => write!(f, "{fault}"),
             Refusal::Check(CheckFault::Reading(fault)) => write!(f, "{fault}"),
             Refusal::Check(fault) => write!(f, "{fault}"),
         }

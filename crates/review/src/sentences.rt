@@ -1,7 +1,8 @@
 use crate::cases::Case;
 use crate::refusals::Refusal;
+use bays::words::TermsSentence;
 use checking::faults::CheckFault;
-use games::deal::talk::TalkFault;
+use games::watched::sheets::SheetsFault;
 use reading::phase_table::PhaseTable;
 use reading::records::{NO_CHOICE, NO_RANK, Position, Record};
 use std::fmt::{self, Formatter, Write};
@@ -46,32 +47,20 @@ pub(crate) struct Sentence<'a> {
 impl fmt::Display for Sentence<'_> {
     fn fmt<W: Write>(&self, f: &mut Formatter<W>) -> fmt::Result {
         match self.refusal {
-            Refusal::Machine(_) => f.write_str("The machine sheet is refused."),
-            Refusal::Rule(_) => f.write_str("The rule sheet is refused."),
+            Refusal::Sheets(SheetsFault::Machine(_)) => f.write_str(
+                "The machine sheet is refused.",
+            ),
+            Refusal::Sheets(SheetsFault::Rule(_)) => f.write_str("The rule sheet is refused."),
             Refusal::Table(_) => f.write_str("The phase table is refused."),
-            Refusal::Bid(_) => f.write_str("The terms of side 0 are not as described."),
-            Refusal::Reply(_) => f.write_str("The terms of side 1 are not as described."),
-            Refusal::Signing(fault) => write_gap(f, fault),
+            Refusal::Terms(fault) => TermsSentence(fault).fmt(f),
             Refusal::Check(fault) => self.write_fault(f, fault),
         }
     }
 }
 
-/// Who promises too much, and where.
-fn write_gap<W: Write>(f: &mut Formatter<W>, fault: TalkFault) -> fmt::Result {
-    match fault {
-        TalkFault::TooFar { phase, side } => {
-            let other = if side == 0 { 1 } else { 0 };
-            write!(
-                f,
-                "In phase {phase} side {side} promises more than side {other} relies on."
-            )
-        }
-        TalkFault::NotTerms => f.write_str("The terms are not as described."),
-    }
-}
-
 impl Sentence<'_> {
+    // Two questions in the format's own words, as a record has them.
+
     /// The record's choice at a position; none in a record that is refused.
     fn choice(&self, at: Position) -> u8 {
         Record::read(self.case.record).map_or(NO_CHOICE, |plan| plan.choice(at))
@@ -86,12 +75,11 @@ impl Sentence<'_> {
     fn phase_after(&self, tick: Tick) -> u8 {
         let Tick { at, partner } = tick;
         let own = self.choice(at);
-        match PhaseTable::parse(self.case.table) {
-            Ok(table) if self.case.side == 0 => table.next(at.phase, own, partner),
-            Ok(table) => table.next(at.phase, partner, own),
-            // a table that is refused has no phase after, and nothing is checked under it
-            Err(_) => 0,
-        }
+        // a table that is refused has no phase after, and nothing is checked under it
+        PhaseTable::parse(self.case.table).map_or(
+            0,
+            |table| table.follow(self.case.side, at.phase, own, partner),
+        )
     }
 
     /// A rank that does not fit its state: 0 is for goals alone.

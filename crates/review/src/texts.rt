@@ -12,6 +12,7 @@ use std::alloc::{AllocError, Global};
 fn tell(heap: Global, case: &Case<'_>, verdict: Result<u16, Refusal>) -> Result<String, AllocError>
     ensures { IfOk result (λ text. Says (told verdict) (string_bytes text)) }
 {
+    // two lines, as inspection writes them of a fault of its own type
     match verdict {
         Ok(bound) => format!(in heap; "bound {bound}\n"),
         Err(refusal) => {

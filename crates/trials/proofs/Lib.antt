@@ -1,1 +1,2 @@
 pub mod Showing
+pub mod SolvingShown

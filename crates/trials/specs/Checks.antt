@@ -11,21 +11,25 @@ use Rattle.checking.specs.Faults.{numbers}
 use Rattle.checking.specs.Checks.{at, plan_fault}
 use Rattle.trials.specs.Toggles.{watched_toggle, toggle_marks}
 
--- what side 0 plays there: signal 1 is promised and relied on, and phase 0 follows
-abbrev pub bay : Arena
-bay = record {
+-- what side 0 plays there under a set of signals that is promised and relied on, and phase 0 follows
+abbrev pub bay_under : ℕ → Arena
+bay_under set = record {
   states = watched_toggle.states;
   phases = 1;
   start = watched_toggle.start;
   own = watched_toggle.own;
   partner = watched_toggle.partner;
-  promised = has width 2;
-  relied = has width 2;
+  promised = has width set;
+  relied = has width set;
   follow = λ p x b. 0;
   move = watched_toggle.move;
   forbidden = forbidden_in watched_toggle toggle_marks;
   goal = goal_in watched_toggle toggle_marks;
 }
+
+-- signal 1 is promised and relied on
+abbrev pub bay : Arena
+bay = bay_under 2
 
 -- a record of four states and one phase that chooses signal 1 everywhere, by its ranks
 abbrev pub ranked : ℕ → ℕ → ℕ → ℕ → List ℕ

@@ -1,3 +1,4 @@
 pub mod Toggles
 pub mod Shown
 pub mod Checks
+pub mod Solutions

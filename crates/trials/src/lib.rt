@@ -11,9 +11,13 @@ mod games_tests;
 #[cfg(test)]
 mod inspection_tests;
 #[cfg(test)]
+mod planning_tests;
+#[cfg(test)]
 mod reading_tests;
 #[cfg(test)]
 mod review_tests;
 #[cfg(test)]
 mod samples;
 pub mod shown;
+#[cfg(test)]
+mod solving_tests;

@@ -1,5 +1,6 @@
 ghost use Rattle.trials.specs.Shown.{WatchedToggle, Signing};
 ghost use Rattle.trials.specs.Checks.{Checking};
+ghost use Rattle.trials.specs.Solutions.{Solving};
 
 /// The toggle watched by its rule sheet, as the definitions have it.
 pub fn watched_toggle()
@@ -14,4 +15,9 @@ pub fn signing()
 /// Checking three records of the watched toggle, as the definitions have it.
 pub fn checking()
     ensures { Checking }
+{}
+
+/// Solving the watched toggle under one signal and under both, as the definitions have it.
+pub fn solving()
+    ensures { Solving }
 {}

@@ -126,9 +126,9 @@ impl<G: Game> Candidate<'_, G> {
     pub(crate) fn check(&self) -> Result<(), CheckFault>
         ensures { refused result ≡ plan_fault (playing G.Machine.meaning G.Game.marks self.now.seat) (put self.now) }
     {
-        let state = self.seat.game.start();
-        let starts = self.keeps(Position { state, phase: 0 });
-        check(starts, CheckFault::StartAbsent { state })?;
+        let start = self.seat.start();
+        let starts = self.keeps(start);
+        check(starts, CheckFault::StartAbsent { state: start.state })?;
         self.check_positions()
     }
 }

@@ -33,7 +33,7 @@ impl CheckFault {
         }
     }
 
-    /// The fault of reading, if it is one.
+    /// The fault of reading, if it is one: a question, and no failure.
     pub fn reading(&self) -> Option<ReadFault>
         ensures { option_map read_numbers result ≡ (numbers self.now).reading }
     {

@@ -6,13 +6,6 @@ use crate::state_set::StateSet;
 use reading::records::Position;
 use std::alloc::{AllocError, Global};
 
-/// Where a position's entry stands.
-fn place(at: Position) -> usize
-    ensures { result ≡ 8 * at.state + at.phase }
-{
-    8 * usize::from(at.state) + usize::from(at.phase)
-}
-
 impl Ranking {
     /// Room for the largest game.
     pub(crate) fn new(heap: Global) -> Result<Ranking, AllocError> {
@@ -24,17 +17,17 @@ impl Ranking {
 
     /// The entry of a position; absent where there is no place for it.
     pub(crate) fn entry(&self, at: Position) -> Entry
-        ensures { result ≡ slice_index_or self.now.entries.items (8 * at.state + at.phase) absent }
+        ensures { result ≡ slice_index_or self.now.entries.items (at.state * 8 + at.phase) absent }
     {
-        self.entries.get(place(at)).copied().unwrap_or(ABSENT)
+        self.entries.get(at.place(8)).copied().unwrap_or(ABSENT)
     }
 
     /// Gives a position its entry.
     pub(crate) fn give(&mut self, at: Position, entry: Entry)
-        requires { 8 * at.state + at.phase < 2048 }
-        ensures entries { self.new.entries.items ≡ slice_set self.old.entries.items (8 * at.state + at.phase) entry }
+        requires { at.state * 8 + at.phase < 2048 }
+        ensures entries { self.new.entries.items ≡ slice_set self.old.entries.items (at.state * 8 + at.phase) entry }
         ensures sets { self.new.ranked ≡ self.old.ranked }
     {
-        self.entries[place(at)] = entry;
+        self.entries[at.place(8)] = entry;
     }
 }

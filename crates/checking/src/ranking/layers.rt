@@ -7,6 +7,7 @@ use crate::seat::Seat;
 use crate::snapshot::Snapshot;
 use reading::records::{NO_RANK, Position};
 
+// What is asked of a ranking is asked of it under a seat, and a ranking outlives each seat: no type holds both.
 impl Ranking {
     /// The signal by which a position joins the next layer: it has no rank, is no goal and not forbidden, and is led into the ranked sets.
     fn joining(&self, seat: &Seat<'_, Snapshot>, at: Position) -> Option<u8>

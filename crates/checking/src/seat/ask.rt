@@ -1,9 +1,11 @@
 ghost use Rattle.std.specs.Prelude.{◌≡◌};
 ghost use Rattle.reading.specs.Firsts.{some_below};
 ghost use Rattle.checking.specs.Arenas.{promised, relied, follow, suits};
+ghost use Rattle.checking.specs.Checks.{at};
 
 use crate::seat::Seat;
 use games::machine::Machine;
+use reading::records::Position;
 
 impl<G> Seat<'_, G> {
     /// Whether the side promises a signal of its own in a phase.
@@ -24,11 +26,7 @@ impl<G> Seat<'_, G> {
     pub(crate) fn follow(&self, phase: u8, own: u8, partner: u8) -> u8
         ensures { result ≡ follow self.now.table.now self.now.side phase own partner }
     {
-        if self.side == 0 {
-            self.table.next(phase, own, partner)
-        } else {
-            self.table.next(phase, partner, own)
-        }
+        self.table.follow(self.side, phase, own, partner)
     }
 }
 
@@ -42,6 +40,16 @@ impl<G: Machine> Seat<'_, G> {
             && sizes == self.deal.sizes()
             && self.game.own() == sizes.signals.own(self.side)
             && self.game.partner() == sizes.signals.partner(self.side)
+    }
+
+    /// Where it starts: in phase 0.
+    pub(crate) fn start(&self) -> Position
+        ensures { result ≡ at (G.Machine.meaning self.now.game.now).start 0 }
+    {
+        Position {
+            state: self.game.start(),
+            phase: 0,
+        }
     }
 
     /// Whether there is a next state under two signals.

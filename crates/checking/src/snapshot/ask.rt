@@ -2,7 +2,7 @@ ghost use Rattle.std.specs.Prelude.{◌≡◌, ℕ};
 ghost use Rattle.checking.specs.StateSets.{member};
 ghost use Rattle.checking.specs.Snapshots.{snap_move, snap_forbidden, snap_goal};
 
-use crate::snapshot::{SIGNALS, Snapshot, place};
+use crate::snapshot::{SIGNALS, Snapshot};
 use crate::state_set::StateSet;
 
 // A snapshot is no game: it keeps no labels, which a machine has to answer.
@@ -33,7 +33,7 @@ impl Snapshot {
         ensures { (t : ℕ) → member result t ≡ snap_move self.now state own partner t }
     {
         if state < self.frame.states && own < SIGNALS && partner < SIGNALS {
-            self.rows[place(state, own, partner)]
+            self.rows[usize::from(state)][usize::from(own)][usize::from(partner)]
         } else {
             StateSet::empty()
         }

@@ -1,8 +1,8 @@
-ghost use Rattle.std.specs.Prelude.{◌<◌, ◌≡◌, ℕ, vec_len};
-ghost use Rattle.checking.specs.StateSets.{member};
+ghost use Rattle.std.specs.Prelude.{◌<◌, ◌≡◌, ℕ, [], slice_index_or, vec_len};
+ghost use Rattle.checking.specs.StateSets.{member, nothing};
 ghost use Rattle.checking.specs.Snapshots.{row_of, Taken};
 
-use crate::snapshot::{SIGNALS, Snapshot, place};
+use crate::snapshot::Snapshot;
 use crate::state_set::StateSet;
 use games::machine::{Game, Machine, frame};
 use reading::machine_sheet::Frame;
@@ -18,34 +18,39 @@ fn next_states<G: Machine>(game: &G, state: u16, own: u8, partner: u8) -> StateS
     )
 }
 
-/// Fills the rows of a game's states.
-fn fill_rows<G: Machine>(game: &G, rows: &mut Vec<StateSet>)
-    requires { vec_len rows.old ≡ 4096 }
-    ensures rows { (s x b t : ℕ) → s < (G.Machine.meaning game.now).states → x < 4 → b < 4 → member (row_of rows.new.items s x b) t ≡ (G.Machine.meaning game.now).move s x b t }
-    ensures long { vec_len rows.new ≡ 4096 }
+/// The sets for an own signal, one for each signal of the partner.
+fn own_row<G: Machine>(game: &G, state: u16, own: u8) -> [StateSet; 4]
+    ensures { (b t : ℕ) → b < 4 → member (slice_index_or result b nothing) t ≡ (G.Machine.meaning game.now).move state own b t }
 {
-    // loops that fill: a place is a state and two signals
+    let under = |partner| next_states(game, state, own, partner);
+    [under(0), under(1), under(2), under(3)]
+}
+
+/// The sets for a state, by its own signal, then its partner's.
+fn state_rows<G: Machine>(game: &G, state: u16) -> [[StateSet; 4]; 4]
+    ensures { (x b t : ℕ) → x < 4 → b < 4 → member (slice_index_or (slice_index_or result x []) b nothing) t ≡ (G.Machine.meaning game.now).move state x b t }
+{
+    let row = |own| own_row(game, state, own);
+    [row(0), row(1), row(2), row(3)]
+}
+
+/// Fills the rows of a game's states.
+fn fill_rows<G: Machine>(game: &G, rows: &mut Vec<[[StateSet; 4]; 4]>)
+    requires { vec_len rows.old ≡ 256 }
+    ensures rows { (s x b t : ℕ) → s < (G.Machine.meaning game.now).states → x < 4 → b < 4 → member (row_of rows.new.items s x b) t ≡ (G.Machine.meaning game.now).move s x b t }
+    ensures long { vec_len rows.new ≡ 256 }
+{
     for state in 0..game.states() {
-        for own in 0..SIGNALS {
-            for partner in 0..SIGNALS {
-                rows[place(state, own, partner)] = next_states(game, state, own, partner);
-            }
-        }
+        rows[usize::from(state)] = state_rows(game, state);
     }
 }
 
 impl Snapshot {
     /// Room for the largest game.
     pub(crate) fn new(heap: Global) -> Result<Snapshot, AllocError> {
-        let frame = Frame {
-            states: 1,
-            own: 1,
-            partner: 1,
-            start: 0,
-        };
         Ok(Snapshot {
-            frame,
-            rows: vec![in heap; StateSet::empty(); 4096]?,
+            frame: Frame::least(),
+            rows: vec![in heap; [[StateSet::empty(); 4]; 4]; 256]?,
             forbidden: StateSet::empty(),
             goals: StateSet::empty(),
         })

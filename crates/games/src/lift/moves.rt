@@ -42,6 +42,7 @@ impl Lift {
         Ok(Lift { floors, signals })
     }
 
+    // as a sheet machine tests them: a function over any machine cannot be called in the impl that makes it one (tried)
     /// Whether the four numbers of a move are in range.
     fn in_range(&self, state: u16, own: u8, partner: u8, next: u16) -> bool
         ensures { result ≡ in_range (2 * self.now.floors) 4 self.now.signals state own partner next }

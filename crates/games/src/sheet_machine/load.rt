@@ -42,14 +42,8 @@ impl SheetMachine {
         labels.push_reserved(0);
         let mut moves = Vec::with_capacity(heap, 4096)?;
         moves.push_reserved(Move { key: 0, target: 0 });
-        let frame = Frame {
-            states: 1,
-            own: 1,
-            partner: 1,
-            start: 0,
-        };
         Ok(SheetMachine {
-            frame,
+            frame: Frame::least(),
             labels,
             moves,
         })

@@ -32,6 +32,7 @@ impl Frame {
 fn cut(bytes: &[u8]) -> Result<MachineSheet<'_>, ReadFault>
     ensures { MatchResult result (λ s. Headed bytes.now (sheet_of s)) (λ f. head_fault bytes.now ≡ Some (numbers f)) }
 {
+    // an `else` must leave, so that it returns the fault
     let [n0, n1, own, partner, s0, s1, e0, e1, rest @ ..] = bytes else {
         return Err(ReadFault::Short(length_place(bytes)));
     };

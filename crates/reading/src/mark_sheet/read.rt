@@ -83,7 +83,7 @@ impl MarkSheet {
         })
     }
 
-    // Two questions in the format's own words: one function would take which is meant.
+    // Two questions in the format's own words: a game's two questions call one each.
 
     /// Whether a state is marked forbidden.
     pub fn forbidden(&self, state: u16) -> bool

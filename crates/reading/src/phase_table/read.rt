@@ -1,5 +1,6 @@
 ghost use Rattle.std.specs.Prelude.{◌≡◌, is_ok, IfOk, Decides, MatchResult};
 ghost use Rattle.reading.specs.Faults.{told};
+ghost use Rattle.reading.specs.Sides.{pick};
 ghost use Rattle.reading.specs.PhaseTables.{table_in, table_of, single, next_phase, phase_fault, Lawful};
 
 use crate::bytes::{byte_at, length_place, put_front};
@@ -25,6 +26,7 @@ impl PhaseTable {
         ensures value { IfOk result (λ t. table_of t ≡ table_in bytes.now) }
         ensures lawful { Decides (is_ok result) (Lawful bytes.now) }
     {
+        // an `else` must leave, so that it returns the fault
         let [phases, signals0, signals1, rest @ ..] = bytes else {
             return Err(ReadFault::Short(length_place(bytes)));
         };
@@ -60,6 +62,17 @@ impl PhaseTable {
             )
         } else {
             0
+        }
+    }
+
+    /// The phase after a phase, as a side sees it: its own signal and its partner's; any side but 0 is side 1.
+    pub fn follow(&self, side: u8, phase: u8, own: u8, partner: u8) -> u8
+        ensures { result ≡ pick side (next_phase (table_of self.now) phase own partner) (next_phase (table_of self.now) phase partner own) }
+    {
+        if side == 0 {
+            self.next(phase, own, partner)
+        } else {
+            self.next(phase, partner, own)
         }
     }
 }

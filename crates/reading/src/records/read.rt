@@ -36,6 +36,7 @@ impl<'a> Record<'a> {
         ensures value { IfOk result (λ p. parts_of p ≡ parts_in bytes.now) }
         ensures lawful { Decides (is_ok result) (Lawful bytes.now) }
     {
+        // an `else` must leave, so that it returns the fault
         let [low, high, phases, signals, rest @ ..] = bytes else {
             return Err(ReadFault::Short(length_place(bytes)));
         };

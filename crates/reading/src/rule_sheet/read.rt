@@ -36,6 +36,7 @@ impl RuleSheet {
         ensures value { IfOk result (λ a. automaton_of a ≡ automaton_in bytes.now) }
         ensures lawful { Decides (is_ok result) (Lawful states bytes.now) }
     {
+        // an `else` must leave, so that it returns the fault
         let [count, accepting, forbidden, start, rest @ ..] = bytes else {
             return Err(ReadFault::Short(length_place(bytes)));
         };
