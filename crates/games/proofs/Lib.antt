@@ -3,3 +3,4 @@ mod LiftExamples
 pub mod SetLaws
 pub mod DealLaws
 mod DealExamples
+pub mod SearchLaws

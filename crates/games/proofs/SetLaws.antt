@@ -3,7 +3,7 @@ use Rattle.std.proofs.Common.{◌≡◌, ℕ, zero, suc, ◌+◌, ◌-◌, ◌*�
 use native.Mathlib.Nat.{two-pow-succ, pow-succ', div-add-mod}
 use lib.Bits.{bit_and, and_step, and_zero_l}
 use lib.Pow.{mod-mod-pow}
-use Rattle.std.proofs.lemmas.Bool.{eqb-true, eq-eqb, ne_eqb, lt-ltb, le-ltb, cases_lt, ltb-true, and_parts, and_from, not-true, not_from_false, both_ways, cases_Bool}
+use Rattle.std.proofs.lemmas.Bool.{eqb-true, eq-eqb, ne_eqb, lt-ltb, le-ltb, cases_lt, ltb-true, and_parts, and_from, not-true, not_from_false, both_ways}
 use Rattle.std.proofs.lemmas.Nat.{pow_pos, leading_top, div_below, mod_below, shr-shr, field_of, mul-le}
 use Rattle.std.specs.List.{range_with_len, list_all}
 use Rattle.std.proofs.lemmas.List.Folds.{list_all-append}

@@ -1,9 +1,9 @@
 -- A machine by its list of moves, as a machine sheet has them.
-use Rattle.std.specs.Prelude.{ℕ, ◌+◌, ◌*◌, Bool, false, cond, ◌&&◌, ◌||◌, List, [], ◌∷◌, map, ◌==◌, nat_lt}
+use Rattle.std.specs.Prelude.{◌≡◌, ℕ, ◌+◌, ◌*◌, ◌<◌, Bool, true, false, cond, ◌&&◌, ◌||◌, List, [], ◌∷◌, length, map, ◌==◌, nat_lt, slice_index_or}
 use Rattle.std.specs.List.{range_with_len}
 use Rattle.reading.specs.declared.machine_sheet.Move.{Move}
 use Rattle.reading.specs.Bytes.{byte}
-use Rattle.reading.specs.MachineSheets.{Sheet, sheet_in, key_at, target_at}
+use Rattle.reading.specs.MachineSheets.{Sheet, sheet_in, key_at, target_at, before}
 use Rattle.games.specs.Machines.{Model, in_range}
 
 pub record Listing : Type 0 where
@@ -27,6 +27,14 @@ listing_of s = record {
   labels = s.labels;
   moves = map (move_at s) (range_with_len 0 s.moves);
 }
+
+-- a move comes before another: by key, then by target
+abbrev pub precedes : Move → Move → Bool
+precedes m n = before m.key m.target n.key n.target
+
+-- each move comes before those behind it
+abbrev pub Ascending : List Move → Type 0
+Ascending ms = (i j : ℕ) (d : Move) → i < j → j < length ms → precedes (slice_index_or ms i d) (slice_index_or ms j d) ≡ true
 
 -- whether a key and a target stand in the list
 abbrev pub listed : List Move → ℕ → ℕ → Bool

@@ -1,5 +1,5 @@
 ghost use Rattle.std.specs.Prelude.{◌≡◌};
-ghost use Rattle.games.specs.Listings.{listed};
+ghost use Rattle.games.specs.Listings.{Ascending, listed};
 ghost use Rattle.games.specs.SheetMachines.{machine_of};
 ghost use Rattle.std.proofs.Common.{rules};
 
@@ -9,9 +9,10 @@ use reading::machine_sheet::{Frame, Move};
 
 /// Whether a move is in the list.
 fn lists(moves: &[Move], key: u16, target: u16) -> bool
+    requires { Ascending moves.now }
     ensures { result ≡ listed moves.now key target }
 {
-    moves.contains(&Move { key, target })
+    moves.binary_search(&Move { key, target }).is_ok()
 }
 
 impl Machine for SheetMachine {

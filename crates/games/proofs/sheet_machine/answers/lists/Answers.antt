@@ -1,6 +1,6 @@
-use Rattle.std.proofs.Common.{◌∙◌}
-use Rattle.games.proofs.ListLaws.{listed_any}
+use Rattle.std.proofs.Common.{refl, ◌∙◌}
+use Rattle.games.proofs.SearchLaws.{searched}
 use Rattle.games.proofs.sheet_machine.answers.lists.Goals as goal
 
 pub returns : goal.returns
-returns c = c.contains.ensures.value ∙ listed_any c.args.moves.now c.args.key c.args.target
+returns c = c.is_ok.ensures.value ∙ searched c.args.key c.args.target c.args.moves.now c.requires _ (λ m. refl) _ c.binary_search.ensures.bound c.binary_search.ensures.position
