@@ -1,0 +1,2 @@
+pub mod BitMachines
+pub mod Asks
