@@ -12,6 +12,10 @@ use std::alloc::{AllocError, Global};
 fn next_states<G: Machine>(game: &G, state: u16, own: u8, partner: u8) -> StateSet
     ensures { (t : ℕ) → member result t ≡ (G.Machine.meaning game.now).move state own partner t }
 {
+    // a signal that there is not moves nowhere, and need not be asked about
+    if own >= game.own() || partner >= game.partner() {
+        return StateSet::empty();
+    }
     StateSet::of(
         game.states(),
         |next| game.may_move(state, own, partner, next),
