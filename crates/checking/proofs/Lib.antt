@@ -12,4 +12,8 @@ pub mod SolutionLaws
 pub mod UniqueLaws
 pub mod SolveLaws
 pub mod MarkLaws
+pub mod PromiseLaws
+pub mod CandidateLaws
+pub mod VerdictLaws
+pub mod SearchingLaws
 mod ReachExamples

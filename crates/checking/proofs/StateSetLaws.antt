@@ -94,7 +94,7 @@ some_high x n =
     high i e = let q : i + 128 - 128 ≡ i = omega arith in cond-false _ _ _ (le-ltb (i + 128) 128 (omega arith)) ∙ ap (bit x.high) q ∙ e
 
 -- one word within another
-word_from : (a b i : ℕ) → bit_and a b ≡ a → bit a i ≡ true → bit b i ≡ true
+pub word_from : (a b i : ℕ) → bit_and a b ≡ a → bit a i ≡ true → bit b i ≡ true
 word_from a b i e h = right (bit a i) (bit b i) (sym (bit_of_and a b i) ∙ ap (λ z. bit z i) e ∙ h)
   where
     right : (x y : Bool) → (x && y) ≡ true → y ≡ true
@@ -105,8 +105,8 @@ implied : (x y : Bool) → (x ≡ true → y ≡ true) → implies x y ≡ true
 implied true y h = h refl
 implied false y h = refl
 
-word_to : (a b : ℕ) → a < 2 ^ 128 → ((i : ℕ) → bit a i ≡ true → bit b i ≡ true) → bit_and a b ≡ a
-word_to a b l h = and_inside 128 a b l (λ i. implied _ _ (h i))
+pub word_to : (n a b : ℕ) → a < 2 ^ n → ((i : ℕ) → bit a i ≡ true → bit b i ≡ true) → bit_and a b ≡ a
+word_to n a b l h = and_inside n a b l (λ i. implied _ _ (h i))
 
 module _ (x y : StateSet) where
   pub within_from : bit_and x.low y.low ≡ x.low → bit_and x.high y.high ≡ x.high → (t : ℕ) → member x t ≡ true → member y t ≡ true
@@ -117,12 +117,12 @@ module _ (x y : StateSet) where
 
   module _ (h : (t : ℕ) → member x t ≡ true → member y t ≡ true) where
     pub low_within : x.low < 2 ^ 128 → bit_and x.low y.low ≡ x.low
-    low_within l = word_to x.low y.low l (λ i e.
+    low_within l = word_to 128 x.low y.low l (λ i e.
         let q = lt-ltb i 128 (bit_below x.low 128 i l e) in
         sym (cond-true _ _ _ q) ∙ h i (cond-true _ _ _ q ∙ e))
 
     pub high_within : x.high < 2 ^ 128 → bit_and x.high y.high ≡ x.high
-    high_within l = word_to x.high y.high l (λ i e.
+    high_within l = word_to 128 x.high y.high l (λ i e.
         let q = le-ltb (i + 128) 128 (omega arith) in
         let back : i + 128 - 128 ≡ i = omega arith in
         sym (cond-false _ _ _ q ∙ ap (bit y.high) back) ∙ h (i + 128) (cond-false _ _ _ q ∙ ap (bit x.high) back ∙ e))

@@ -41,6 +41,10 @@ pub record Controller (a : Arena) (c : Plan) : Type 0 where
   pub rival : Rival a c
   pub starts : Kept c a.start 0
 
+-- there is a ranked controller
+abbrev pub Controlled : Arena → Type 0
+Controlled a = (c : Plan) × Controller a c
+
 -- the bound: the largest kept rank, reached or not
 pub record Bound (c : Plan) (b : ℕ) : Type 0 where
   pub above : (s p : ℕ) → Kept c s p → c.rank s p ≤ b

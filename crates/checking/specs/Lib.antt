@@ -8,3 +8,5 @@ pub mod Snapshots
 pub mod Solving
 pub mod Reach
 pub mod Marking
+pub mod Searching
+pub mod Verdicts

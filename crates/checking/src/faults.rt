@@ -5,6 +5,7 @@ ghost use Rattle.checking.specs.declared.faults.CheckFault.TheVariants.{Reading}
 ghost use Rattle.checking.specs.Faults.{numbers};
 ghost use Rattle.checking.specs.Solutions.{solve_number};
 ghost use Rattle.checking.specs.Reach.{reach_number};
+ghost use Rattle.checking.specs.Searching.{search_number};
 
 use reading::faults::ReadFault;
 use reading::records::Position;
@@ -112,3 +113,29 @@ impl fmt::Display for ReachFault {
 }
 
 impl Error for ReachFault {}
+
+/// Why searching answers no deal; the two refusals after candidates were tried carry the tries.
+#[derive(Clone, Copy, PartialEq, Eq, Debug)]
+pub enum SearchFault {
+    /// Sizes of the games and of the table differ.
+    Sizes,
+    /// The allowance of tries is not from 1 to 65,535.
+    Allowance,
+    /// There are more than 65,535 candidates.
+    TooMany,
+    /// None of the candidates allowed is workable, and more remain.
+    Untried(u16),
+    /// No candidate at all is workable.
+    NoDeal(u16),
+}
+
+impl fmt::Display for SearchFault {
+    ghost output = { λ x. Some (codes "refused " ++ decimal (search_number x)) };
+
+    fn fmt<W: fmt::Write>(&self, f: &mut fmt::Formatter<W>) -> fmt::Result {
+        let refused = self.number();
+        write!(f, "refused {refused}")
+    }
+}
+
+impl Error for SearchFault {}

@@ -6,6 +6,7 @@ pub mod check;
 pub mod faults;
 mod ranking;
 pub mod reach;
+pub mod search;
 mod seat;
 mod snapshot;
 pub mod solve;

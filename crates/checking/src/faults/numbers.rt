@@ -4,8 +4,9 @@ ghost use Rattle.reading.specs.Faults.{numbers as read_numbers};
 ghost use Rattle.checking.specs.Faults.{numbers, none};
 ghost use Rattle.checking.specs.Solutions.{solve_number};
 ghost use Rattle.checking.specs.Reach.{reach_number};
+ghost use Rattle.checking.specs.Searching.{search_number, search_tries};
 
-use crate::faults::{CheckFault, ReachFault, SolveFault};
+use crate::faults::{CheckFault, ReachFault, SearchFault, SolveFault};
 use reading::faults::ReadFault;
 use reading::records::Position;
 
@@ -119,6 +120,31 @@ impl ReachFault {
         match *self {
             ReachFault::Sizes => 10,
             ReachFault::Buffer => 22,
+        }
+    }
+}
+
+impl SearchFault {
+    /// The refusal's number.
+    pub fn number(&self) -> u8
+        ensures { result ≡ search_number self.now }
+    {
+        match *self {
+            SearchFault::Sizes => 10,
+            SearchFault::Allowance => 24,
+            SearchFault::TooMany => 25,
+            SearchFault::Untried(_) => 26,
+            SearchFault::NoDeal(_) => 27,
+        }
+    }
+
+    /// How many candidates were tried, if any were.
+    pub fn tries(&self) -> Option<u16>
+        ensures { result ≡ search_tries self.now }
+    {
+        match *self {
+            SearchFault::Untried(tries) | SearchFault::NoDeal(tries) => Some(tries),
+            SearchFault::Sizes | SearchFault::Allowance | SearchFault::TooMany => None,
         }
     }
 }
