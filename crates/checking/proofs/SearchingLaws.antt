@@ -50,5 +50,5 @@ module _ (m : Sides Model) (k : Sides Marks) (t : PhaseTable) (y : Seeker) (firs
   none_at_all allowance many count head c a e v = record { head = head; all = c; allowed = a; none = rw e (none_before many v) }
 
 -- nothing is refused before any candidate is tried
-pub head_none : (m : Sides Model) (z : Sizes) (allowance : ℕ) → meet m z ≡ true → within 1 65535 allowance ≡ true → leb (how_many z) 65535 ≡ true → search_head m z allowance ≡ None
-head_none m z allowance a b c = of_none _ _ (unless_none _ _ a) (of_none _ _ (unless_none _ _ b) (unless_none _ _ c))
+pub untold : (m : Sides Model) (z : Sizes) (allowance : ℕ) → meet m z ≡ true → within 1 65535 allowance ≡ true → leb (how_many z) 65535 ≡ true → search_head m z allowance ≡ None
+untold m z allowance a b c = of_none _ _ (unless_none _ _ a) (of_none _ _ (unless_none _ _ b) (unless_none _ _ c))

@@ -18,8 +18,8 @@ use Rattle.checking.specs.declared.ranking.Ranking.{Ranking}
 use Rattle.checking.specs.declared.snapshot.Snapshot.{Snapshot}
 use Rattle.checking.specs.Snapshots.{Taken, snap_arena}
 use Rattle.checking.specs.Arenas.{Arena, arena, promised, suits, Suits}
-use Rattle.checking.specs.Controllers.{Plan, plan_in, Kept}
-use Rattle.checking.specs.Checks.{Sized, Ranked, answer}
+use Rattle.checking.specs.Controllers.{Plan, plan_in, Kept, Controlled}
+use Rattle.checking.specs.Checks.{Sized, answer}
 use Rattle.checking.specs.Solutions.{Solved, Solution, record_size, solve_head, Found, Refused}
 use Rattle.checking.specs.Solving.{absent, Stable, Bounded, ranks_in, choices_in, Wrote}
 use Rattle.checking.proofs.CheckLaws.{suits_from, suits_to, ranked_to}
@@ -105,12 +105,12 @@ module _ (m : Model) (k : Marks) (t : PhaseTable) (d : Deal) (side : ℕ) where
       (omega (arith, f.lawful.some_phases)) (same_entries (arena m k t d side) (plan_in xs) (plan_in ys) f.solved g.solved) f.lawful.long g.lawful.long
 
   -- nothing is refused before solving
-  head_none : (size : ℕ) → Suits m t d side → size ≡ record_size m.states t.sizes.phases → solve_head m t d side size ≡ None
+  pub head_none : (size : ℕ) → Suits m t d side → size ≡ record_size m.states t.sizes.phases → solve_head m t d side size ≡ None
   head_none size s e = of_none _ _ (unless_none _ _ (suits_to m t d side s)) (unless_none _ _ (eq-eqb _ _ e))
 
   module _ (w : LawfulMachine m) (s : Suits m t d side) (z : Ranking) (b : Bounded (arena m k t d side)) (st : Stable (arena m k t d side) (ranks_in (arena m k t d side) z) (choices_in (arena m k t d side) z)) where
-    nothing_controls : 65535 ≤ ranks_in (arena m k t d side) z m.start 0 → (xs : List ℕ) → Ranked m k t d side xs → ⊥
-    nothing_controls h xs r = none_controls (arena m k t d side) _ _ st h (plan_in xs) r.controller
+    nothing_controls : 65535 ≤ ranks_in (arena m k t d side) z m.start 0 → Controlled (arena m k t d side) → ⊥
+    nothing_controls h y = none_controls (arena m k t d side) _ _ st h y.0 y.1
 
     module _ (old xs : List ℕ) (size : length old ≡ record_size m.states t.sizes.phases) (wr : Wrote (arena m k t d side) z xs) where
       own : (p x : ℕ) → promised d side p x ≡ true → x < m.own

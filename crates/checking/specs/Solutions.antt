@@ -9,8 +9,8 @@ use Rattle.games.specs.Machines.{Model, Marks}
 use Rattle.checking.specs.declared.faults.SolveFault.{SolveFault}
 use Rattle.checking.specs.declared.faults.SolveFault.TheVariants as fault
 use Rattle.checking.specs.Arenas.{Arena, arena, suits}
-use Rattle.checking.specs.Controllers.{Plan, plan_in, Kept, Serves, Rival}
-use Rattle.checking.specs.Checks.{Sized, Ranked, check_answer}
+use Rattle.checking.specs.Controllers.{Plan, plan_in, Kept, Serves, Rival, Controlled}
+use Rattle.checking.specs.Checks.{Sized, check_answer}
 
 -- the number of each refusal of solving; every promise about them reads this definition
 abbrev pub solve_number : SolveFault → ℕ
@@ -53,11 +53,11 @@ pub record Found (m : Model) (k : Marks) (t : PhaseTable) (d : Deal) (side : ℕ
   pub starts : Kept (plan_in new) m.start 0
   pub accepted : check_answer m k t d side new ≡ Ok bound
 
--- a number is refused: before any solving, or else it is 23 and no bytes whatever are a ranked controller
+-- a number is refused: before any solving, or else it is 23 and there is no ranked controller, so that no bytes whatever are one
 abbrev pub Refused : Model → Marks → PhaseTable → Deal → ℕ → List ℕ → ℕ → Type 0
 Refused m k t d side old number =
     (solve_head m t d side (length old) ≡ Some number)
-    ⊎ ((solve_head m t d side (length old) ≡ None) × (number ≡ 23) × ((xs : List ℕ) → Ranked m k t d side xs → ⊥))
+    ⊎ ((solve_head m t d side (length old) ≡ None) × (number ≡ 23) × (Controlled (arena m k t d side) → ⊥))
 
 -- what solving answers, and what it makes of the buffer
 abbrev pub Solves : Model → Marks → PhaseTable → Deal → ℕ → List ℕ → List ℕ → Result ℕ SolveFault → Type 0

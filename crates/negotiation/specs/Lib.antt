@@ -1,0 +1,3 @@
+pub mod Refusals
+pub mod Negotiations
+pub mod Lines
