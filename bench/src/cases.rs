@@ -25,6 +25,12 @@ fn each_phase(phases: usize, signals: u32) -> u32 {
     (0..phases).fold(0, |set, phase| set | signals << (4 * phase))
 }
 
+/// The terms of two sides that rely on just what the other promises.
+fn mirrored(own: u32, partner: u32) -> [Terms; 2] {
+    let side = |promise, reliance| Terms { promise, reliance };
+    [side(own, partner), side(partner, own)]
+}
+
 /// A lift that has to carry a load up and come back, so often before the automaton accepts; only in phase 0 the partner is sure to help.
 pub fn lift(floors: u8, trips: usize) -> Bay {
     let phases = 8;
@@ -42,16 +48,7 @@ pub fn lift(floors: u8, trips: usize) -> Bay {
         machine: Machine::Lift { floors, signals: 2 },
         layer: Layer::Rule(rule_sheet(accepting, 0, 0, &next)),
         table: round(phases as u8, 4, 2),
-        terms: [
-            Terms {
-                promise: own,
-                reliance: partner,
-            },
-            Terms {
-                promise: partner,
-                reliance: own,
-            },
-        ],
+        terms: mirrored(own, partner),
         side: 0,
     }
 }
@@ -116,16 +113,7 @@ pub fn chain(phases: usize, corridor: usize) -> Bay {
         machine: Machine::Sheet(sheet((2, 2), start, &[0; 256], moves)),
         layer: Layer::Marks(marks(Bits::EMPTY, goals)),
         table,
-        terms: [
-            Terms {
-                promise: own,
-                reliance: partner,
-            },
-            Terms {
-                promise: partner,
-                reliance: own,
-            },
-        ],
+        terms: mirrored(own, partner),
         side: 0,
     }
 }

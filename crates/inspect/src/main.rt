@@ -2,13 +2,11 @@
 #![tactic(auto)]
 
 use anyhow::bail;
+use console::input::{SHEET_LIMIT, read_input, read_sheet};
 use inspection::kinds::Request;
 use inspection::machines::{lift, product};
 use inspection::sheets::inspect;
-use std::alloc::Global;
-use std::fs::File;
-use std::io::Read;
-use std::{env, io};
+use std::env;
 
 const USAGE: &str = "usage: inspect KIND < SHEET
   inspect machine              a machine sheet
@@ -21,23 +19,13 @@ const USAGE: &str = "usage: inspect KIND < SHEET
   inspect --help               this text
 ";
 
-/// At most this much is read: no sheet is as long, and no place is above it.
-const MOST: u64 = 65_535;
-
-/// What comes, up to a limit: each program has its own, and they share no crate.
-fn read(heap: Global, from: impl Read + Drop) -> io::Result<Vec<u8>> {
-    let mut bytes = Vec::new(heap);
-    from.take(MOST).read_to_end(&mut bytes)?;
-    Ok(bytes)
-}
-
 fn main(rt: HostRuntime) -> anyhow::Result<()> {
     let heap = rt.alloc();
     let words: Vec<String> = env::args(&rt)?.skip(1).collect(heap)?;
     let text = match words.as_slice() {
         [kind, machine, rule] if kind.as_str() == "product" => {
-            let machine = read(heap, File::open(&rt, machine.as_str())?)?;
-            let rule = read(heap, File::open(&rt, rule.as_str())?)?;
+            let machine = read_sheet(&rt, heap, machine.as_str())?;
+            let rule = read_sheet(&rt, heap, rule.as_str())?;
             product(heap, machine.as_slice(), rule.as_slice())?
         }
         [kind, floors, signals] if kind.as_str() == "lift" => {
@@ -45,7 +33,10 @@ fn main(rt: HostRuntime) -> anyhow::Result<()> {
         }
         words => match Request::parse(words) {
             Some(Request::Help) => return Ok(rt.print(USAGE)?),
-            Some(Request::Sheet(kind)) => inspect(heap, kind, read(heap, rt.stdin())?.as_slice())?,
+            Some(Request::Sheet(kind)) => {
+                let sheet = read_input(heap, rt.stdin(), SHEET_LIMIT)?;
+                inspect(heap, kind, sheet.as_slice())?
+            }
             None => {
                 rt.eprint(USAGE)?;
                 bail!("no kind of sheet was given");

@@ -1,5 +1,5 @@
 -- What is planned from an input and both sides' terms: the first refusal, or what solving answers for each side.
-use Rattle.std.specs.Prelude.{◌≡◌, ℕ, List, [], ◌∷◌, ◌++◌, length, codes, decimal, vec_items, Some, None, Ok, Err, Option, Result}
+use Rattle.std.specs.Prelude.{◌≡◌, ℕ, List, [], ◌∷◌, ◌++◌, replicate, codes, decimal, vec_items, Some, None, Ok, Err, Option, Result}
 use Rattle.std.specs.Option.{option_map}
 use Rattle.reading.specs.Firsts.{first_some}
 use Rattle.reading.specs.Faults.{printed}
@@ -42,11 +42,9 @@ early_line xs s =
     first_some (option_map (λ (b : Blame). printed b.fault) (bay_fault xs))
     (terms_line (table_in (parts_in xs).table) s)
 
--- a plan is what solving answers, and its record what solving made of a buffer of the right length
+-- a plan is what solving answers, and its record what solving made of zeros
 pub record Answered (m : Model) (k : Marks) (t : PhaseTable) (d : Deal) (side : ℕ) (p : Plan) : Type 0 where
-  pub buffer : List ℕ
-  pub long : length buffer ≡ record_size m.states t.sizes.phases
-  pub solves : Solves m k t d side buffer (vec_items p.record) p.answer
+  pub solves : Solves m k t d side (replicate (record_size m.states t.sizes.phases) 0) (vec_items p.record) p.answer
 
 -- the plan of a side whose machine and rule sheet are given
 abbrev pub SidePlan : List ℕ → List ℕ → PhaseTable → Deal → ℕ → Plan → Type 0

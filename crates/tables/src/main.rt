@@ -2,11 +2,11 @@
 #![tactic(auto)]
 
 use anyhow::bail;
+use console::input::{BAY_LIMIT, read_input};
+use console::words::{ask_help, parse_terms};
 use games::deal::Terms;
 use planning::plans::{Plan, Plans};
 use reading::sides::Sides;
-use std::alloc::Global;
-use std::io::Read;
 use std::{env, fs, io};
 
 const USAGE: &str = "usage: tables P0 R0 P1 R1 < BAY
@@ -17,21 +17,11 @@ const USAGE: &str = "usage: tables P0 R0 P1 R1 < BAY
   BAY               five two-byte lengths, then machine sheet and rule sheet of side 0, of side 1, and the phase table
 ";
 
-/// At most 40,000 bytes make a bay; one more tells that there are too many.
-const MOST: u64 = 40_001;
-
 /// What the words after the program's name say: the terms, and the files for the records.
 #[derive(Clone, Copy)]
 struct Arguments<'a> {
     terms: Sides<Terms>,
     files: Option<Sides<&'a str>>,
-}
-
-fn terms(promise: &str, reliance: &str) -> Option<Terms> {
-    Some(Terms {
-        promise: promise.parse().ok()?,
-        reliance: reliance.parse().ok()?,
-    })
 }
 
 impl<'a> Arguments<'a> {
@@ -40,8 +30,8 @@ impl<'a> Arguments<'a> {
             return None;
         };
         let terms = Sides {
-            first: terms(p0.as_str(), r0.as_str())?,
-            second: terms(p1.as_str(), r1.as_str())?,
+            first: parse_terms(p0.as_str(), r0.as_str())?,
+            second: parse_terms(p1.as_str(), r1.as_str())?,
         };
         let files = match files {
             [] => None,
@@ -55,13 +45,6 @@ impl<'a> Arguments<'a> {
     }
 }
 
-/// What comes, up to a limit: each program has its own, and they share no crate.
-fn read(heap: Global, from: impl Read + Drop) -> io::Result<Vec<u8>> {
-    let mut bytes = Vec::new(heap);
-    from.take(MOST).read_to_end(&mut bytes)?;
-    Ok(bytes)
-}
-
 /// Writes a plan's record, if it has one.
 fn write(rt: &HostRuntime, file: &str, plan: &Plan) -> io::Result<()> {
     if plan.answer.is_ok() {
@@ -73,14 +56,14 @@ fn write(rt: &HostRuntime, file: &str, plan: &Plan) -> io::Result<()> {
 fn main(rt: HostRuntime) -> anyhow::Result<()> {
     let heap = rt.alloc();
     let words: Vec<String> = env::args(&rt)?.skip(1).collect(heap)?;
-    if matches!(words.as_slice(), [word] if word.as_str() == "--help") {
+    if ask_help(words.as_slice()) {
         return Ok(rt.print(USAGE)?);
     }
     let Some(Arguments { terms, files }) = Arguments::parse(words.as_slice()) else {
         rt.eprint(USAGE)?;
         bail!("these are not four numbers, and two files or none");
     };
-    let bytes = read(heap, rt.stdin())?;
+    let bytes = read_input(heap, rt.stdin(), BAY_LIMIT)?;
     match Plans::make(heap, bytes.as_slice(), terms)? {
         Ok(plans) => {
             rt.print(plans.to_string(heap)?)?;

@@ -11,7 +11,7 @@ use std::alloc::Global;
 use std::test::Fail;
 
 /// The toggle watched by its rule sheet: under signals 1 and 1 states 0 and 1 move to 3, and 2 and 3 to 0; 1 and 3 are goals.
-pub fn toggle(heap: Global) -> Result<Watched<SheetMachine>, Fail> {
+pub(crate) fn toggle(heap: Global) -> Result<Watched<SheetMachine>, Fail> {
     let mut machine = SheetMachine::new(heap)?;
     let _ = machine.load(&TOGGLE);
     let mut game = Watched::new(machine);
@@ -20,18 +20,22 @@ pub fn toggle(heap: Global) -> Result<Watched<SheetMachine>, Fail> {
 }
 
 /// One phase with two signals each way, or two phases where the signals of both sides as one number give the next.
-pub fn table(bytes: &[u8]) -> PhaseTable {
+pub(crate) fn table(bytes: &[u8]) -> PhaseTable {
     let mut table = PhaseTable::new();
     let _ = table.read(bytes);
     table
 }
 
-pub const ONE_PHASE: [u8; 7] = [1, 2, 2, 0, 0, 0, 0];
+pub(crate) const ONE_PHASE: [u8; 7] = [1, 2, 2, 0, 0, 0, 0];
 
 /// Phase 1 after signals 1 and 1, else phase 0.
 const TWO_PHASES: [u8; 11] = [2, 2, 2, 0, 0, 0, 1, 0, 0, 0, 1];
 
-pub fn deal(table: &PhaseTable, first: (u32, u32), second: (u32, u32)) -> Result<Deal, Fail> {
+pub(crate) fn deal(
+    table: &PhaseTable,
+    first: (u32, u32),
+    second: (u32, u32),
+) -> Result<Deal, Fail> {
     signed(table, first, second).map_err(|_| Fail::new("not signed"))
 }
 
