@@ -27,6 +27,8 @@ pub struct Contest {
     heap: Global,
     workspace: Workspace,
     pub solved: Tally,
+    /// The largest bound of a solved record: how far it is to a goal.
+    pub farthest: u16,
     pub checked: Tally,
 }
 
@@ -50,14 +52,16 @@ impl Contest {
         Ok(Contest {
             heap,
             workspace: Workspace::new(heap)?,
-            solved: Tally::new(),
-            checked: Tally::new(),
+            solved: Tally::new("solved"),
+            farthest: 0,
+            checked: Tally::new("ranked"),
         })
     }
 
     pub fn clear(&mut self) {
-        self.solved = Tally::new();
-        self.checked = Tally::new();
+        self.solved = Tally::new("solved");
+        self.farthest = 0;
+        self.checked = Tally::new("ranked");
     }
 
     /// Draws what stands around a game, and compares what is made of it.
@@ -107,7 +111,8 @@ impl Contest {
                     buffer.as_slice() == solved.bytes.as_slice(),
                     "solving differs in the record"
                 );
-                self.solved.add(0);
+                self.solved.add(Ok(bound));
+                self.farthest = self.farthest.max(bound);
                 Ok(Some(buffer))
             }
             (Err(fault), Err(number)) => {
@@ -119,7 +124,7 @@ impl Contest {
                     buffer.as_slice() == before.as_slice(),
                     "solving refuses and writes"
                 );
-                self.solved.add(number);
+                self.solved.add(Err(number));
                 Ok(None)
             }
             _ => bail!("solving differs: one refuses"),
@@ -132,8 +137,7 @@ impl Contest {
         let first = check(table.game, &bay.table, &bay.deal, bay.side, record).map_err(told);
         let second = judging::check(table.seat, record);
         ensure!(first == second, "checking differs");
-        self.checked
-            .add(first.err().map_or(0, |fault| fault.number));
+        self.checked.add(first.map_err(|fault| fault.number));
         Ok(())
     }
 }

@@ -26,10 +26,10 @@ pub fn machine_size(random: &mut Random) -> Size {
 
 /// How many next states there are beside one, on average.
 fn width(random: &mut Random, states: u16) -> u16 {
-    match random.up_to(5) {
-        0..=2 => 0,
-        3 => 1,
-        4 => 2,
+    match random.up_to(7) {
+        0..=4 => 0,
+        5 => 1,
+        6 => 2,
         _ => states / 2,
     }
 }
@@ -37,9 +37,8 @@ fn width(random: &mut Random, states: u16) -> u16 {
 /// Once in how many times a pair of signals has no move at all.
 fn gaps(random: &mut Random) -> u16 {
     match random.up_to(3) {
-        0 | 1 => 1000,
-        2 => 50,
-        _ => 8,
+        0..=2 => 1000,
+        _ => 12,
     }
 }
 
@@ -91,9 +90,14 @@ pub fn sheet(heap: Global, random: &mut Random, size: Size) -> Result<Vec<u8>, A
     Ok(bytes)
 }
 
-/// A mark sheet: many or few goals, few forbidden states.
+/// A mark sheet: many or few goals, hardly one in some draws, and few forbidden states.
 pub fn marks(heap: Global, random: &mut Random, states: u16) -> Result<Vec<u8>, AllocError> {
-    let (goals, forbidden) = (1 + random.up_to(4), 4 + random.up_to(40));
+    let goals = if random.once_in(20) {
+        u16::MAX
+    } else {
+        1 + random.up_to(3)
+    };
+    let forbidden = 4 + random.up_to(40);
     let mut bytes = Vec::new(heap);
     let mut goal_bytes = Vec::new(heap);
     for byte in 0..32u16 {
@@ -120,7 +124,7 @@ pub fn rule(heap: Global, random: &mut Random, states: u16) -> Result<Vec<u8>, A
     let last = random.up_to(room - 1) as u8;
     let mut accepting = 0u8;
     for _ in 0..=last {
-        accepting = accepting << 1 | u8::from(random.once_in(2));
+        accepting = accepting << 1 | u8::from(!random.once_in(3));
     }
     let forbidden = if random.once_in(3) {
         1 << random.byte_up_to(7)
@@ -176,9 +180,9 @@ fn many(random: &mut Random, phases: u8, signals: u8) -> u32 {
     sets
 }
 
-/// A set for each phase that is not empty: any, or in half the draws one signal.
+/// A set for each phase that is not empty: mostly one signal.
 fn few(random: &mut Random, phases: u8, signals: u8) -> u32 {
-    let (single, all) = (random.once_in(2), all(signals));
+    let (single, all) = (!random.once_in(4), all(signals));
     let mut sets = 0u32;
     for _ in 0..phases {
         let set = if single {

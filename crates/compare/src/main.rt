@@ -15,7 +15,7 @@ use anyhow::Context;
 use rival::random::Random;
 
 /// How many games of each kind.
-const GAMES: u64 = 500;
+const GAMES: u64 = 1200;
 
 fn main(rt: HostRuntime) -> anyhow::Result<()> {
     let heap = rt.alloc();
@@ -26,8 +26,11 @@ fn main(rt: HostRuntime) -> anyhow::Result<()> {
             kind.play(heap, &mut contest, &mut Random::new(seed))
                 .context(format_args!("{kind}, seed {seed}"))?;
         }
-        rt.println(format!(in heap; "solve, {kind}: {}", &contest.solved)?)?;
-        rt.println(format!(in heap; "check, {kind}: {}", &contest.checked)?)?;
+        println!(rt;
+            "solve, {kind}: {}, largest bound {}",
+            &contest.solved, contest.farthest
+        )?;
+        println!(rt; "check, {kind}: {}", &contest.checked)?;
     }
     Ok(())
 }
