@@ -5,6 +5,7 @@
 
 pub mod arena;
 mod bytes;
+pub mod candidates;
 pub mod judging;
 mod layers;
 pub mod lifting;

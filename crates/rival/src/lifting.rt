@@ -164,7 +164,25 @@ impl<'a> Ranks<'a> {
     }
 }
 
-/// The solved record for a seat, by lifting ranks from below, if a buffer of so many bytes is to hold it.
+/// The least ranks that a rival can have, by lifting from below.
+fn settled<'a>(heap: Global, seat: &'a Seat<'a>) -> Result<Ranks<'a>, AllocError> {
+    let mut ranks = Ranks::new(heap, seat)?;
+    // each round but the last lifts a rank, so it ends long before
+    for _ in 0..u64::MAX {
+        if !ranks.lift() {
+            break;
+        }
+    }
+    Ok(ranks)
+}
+
+/// Whether a seat that suits its machine has a ranked controller.
+pub fn has_controller(heap: Global, seat: &Seat<'_>) -> Result<bool, AllocError> {
+    let ranks = settled(heap, seat)?;
+    Ok(ranks.rank(seat.arena.start, 0) != ABSENT)
+}
+
+/// The solved record for a seat, if a buffer of so many bytes is to hold it.
 pub fn solve(
     heap: Global,
     seat: &Seat<'_>,
@@ -176,13 +194,7 @@ pub fn solve(
     if room != 4 + 3 * seat.places() {
         return Ok(Err(22));
     }
-    let mut ranks = Ranks::new(heap, seat)?;
-    // each round but the last lifts a rank, so it ends long before
-    for _ in 0..u64::MAX {
-        if !ranks.lift() {
-            break;
-        }
-    }
+    let ranks = settled(heap, seat)?;
     if ranks.rank(seat.arena.start, 0) == ABSENT {
         return Ok(Err(23));
     }
