@@ -28,32 +28,30 @@ impl Bay {
         } else {
             random.byte_up_to(1)
         };
-        let mut signals = if side == 0 {
-            (game.own, game.partner)
+        let phases = 1 + random.byte_up_to(7);
+        let sizes = if random.once_in(60) {
+            draws::sizes(random)
+        } else if side == 0 {
+            [phases, game.own, game.partner]
         } else {
-            (game.partner, game.own)
+            [phases, game.partner, game.own]
         };
-        if random.once_in(60) {
-            signals = (1 + random.byte_up_to(3), 1 + random.byte_up_to(3));
-        }
-        let bytes = draws::table(heap, random, signals)?;
-        let table = PhaseTable::parse(bytes.as_slice())?;
+        let bytes = draws::table(heap, random, sizes)?;
         // a deal is signed on a table, seldom on another than this one
-        let other = draws::table(heap, random, signals)?;
-        let on = if random.once_in(60) {
-            PhaseTable::parse(other.as_slice())?
+        let signed = if random.once_in(60) {
+            draws::sizes(random)
         } else {
-            table
+            sizes
         };
-        let [phases, first, second] = [on.phases(), on.signals(0), on.signals(1)];
-        let terms = draws::terms(random, phases, (first, second), side);
+        let on = draws::table(heap, random, signed)?;
+        let terms = draws::terms(random, signed, side);
         Ok(Bay {
-            deal: sign(&on, terms)?,
-            table,
+            deal: sign(&PhaseTable::parse(on.as_slice())?, terms)?,
+            table: PhaseTable::parse(bytes.as_slice())?,
             bytes,
             side,
             terms,
-            signed: [phases, first, second],
+            signed,
         })
     }
 

@@ -15,13 +15,19 @@ pub struct Size {
 const MOST_MOVES: usize = 4096;
 
 /// Mostly a small machine.
-pub fn machine_size(random: &mut Random) -> Size {
+pub fn small(random: &mut Random) -> Size {
     let most = if random.once_in(25) { 59 } else { 11 };
     Size {
         states: 1 + random.up_to(most),
         own: 1 + random.byte_up_to(3),
         partner: 1 + random.byte_up_to(3),
     }
+}
+
+/// Floors and partner signals of a lift.
+pub fn lift(random: &mut Random) -> (u8, u8) {
+    let most = if random.once_in(25) { 30 } else { 8 };
+    (2 + random.byte_up_to(most), 2 + random.byte_up_to(2))
 }
 
 /// How many next states there are beside one, on average.
@@ -142,13 +148,20 @@ pub fn rule(heap: Global, random: &mut Random, states: u16) -> Result<Vec<u8>, A
     Ok(bytes)
 }
 
-/// A phase table for the signals of both sides.
-pub fn table(heap: Global, random: &mut Random, signals: (u8, u8)) -> Result<Vec<u8>, AllocError> {
-    let last = random.byte_up_to(7);
+/// Any sizes of a phase table.
+pub fn sizes(random: &mut Random) -> [u8; 3] {
+    let phases = 1 + random.byte_up_to(7);
+    [phases, 1 + random.byte_up_to(3), 1 + random.byte_up_to(3)]
+}
+
+/// A phase table of these sizes: phases, signals of side 0, signals of side 1.
+pub fn table(heap: Global, random: &mut Random, sizes: [u8; 3]) -> Result<Vec<u8>, AllocError> {
+    let [phases, first, second] = sizes;
+    let last = phases.saturating_sub(1);
     let mut bytes = Vec::new(heap);
-    bytes.extend_from_slice(&[1 + last, signals.0, signals.1])?;
-    for _ in 0..=last {
-        for _ in 0..u16::from(signals.0) * u16::from(signals.1) {
+    bytes.extend_from_slice(&sizes)?;
+    for _ in 0..phases {
+        for _ in 0..u16::from(first) * u16::from(second) {
             bytes.push(random.byte_up_to(last))?;
         }
     }
@@ -197,11 +210,12 @@ fn few(random: &mut Random, phases: u8, signals: u8) -> u32 {
 
 /// Terms that can be signed, since each reliance has at least the other's promise. The side that plays may do much and expects
 /// little, or else few games would have a controller.
-pub fn terms(random: &mut Random, phases: u8, signals: (u8, u8), side: u8) -> Sides<Terms> {
+pub fn terms(random: &mut Random, sizes: [u8; 3], side: u8) -> Sides<Terms> {
+    let [phases, first, second] = sizes;
     let (own, partner) = if side == 0 {
-        signals
+        (first, second)
     } else {
-        (signals.1, signals.0)
+        (second, first)
     };
     let promise = many(random, phases, own);
     let expected = few(random, phases, partner);

@@ -1,4 +1,5 @@
 use crate::contest::Contest;
+use crate::draws;
 use crate::made::{lift, marked, sheet, watched};
 use anyhow::Result;
 use rival::random::Random;
@@ -30,41 +31,43 @@ impl Kind {
 
     /// Makes a game of this kind, and plays it against its arena.
     pub fn play(self, heap: Global, contest: &mut Contest, random: &mut Random) -> Result<()> {
+        let size = draws::small(random);
+        let (floors, signals) = draws::lift(random);
         match self {
             Kind::MarkedSheet => {
-                let machine = sheet(heap, random)?;
+                let machine = sheet(heap, random, size)?;
                 let game = marked(heap, random, machine)?;
                 contest.play(random, &game)
             }
             Kind::WatchedSheet => {
-                let machine = sheet(heap, random)?;
+                let machine = sheet(heap, random, size)?;
                 let game = watched(heap, random, machine)?;
                 contest.play(random, &game)
             }
             Kind::MarkedLift => {
-                let machine = lift(heap, random)?;
+                let machine = lift(heap, floors, signals)?;
                 let game = marked(heap, random, machine)?;
                 contest.play(random, &game)
             }
             Kind::WatchedLift => {
-                let machine = lift(heap, random)?;
+                let machine = lift(heap, floors, signals)?;
                 let game = watched(heap, random, machine)?;
                 contest.play(random, &game)
             }
             Kind::MarkedWatchedSheet => {
-                let machine = sheet(heap, random)?;
+                let machine = sheet(heap, random, size)?;
                 let below = watched(heap, random, machine)?;
                 let game = marked(heap, random, below)?;
                 contest.play(random, &game)
             }
             Kind::WatchedMarkedLift => {
-                let machine = lift(heap, random)?;
+                let machine = lift(heap, floors, signals)?;
                 let below = marked(heap, random, machine)?;
                 let game = watched(heap, random, below)?;
                 contest.play(random, &game)
             }
             Kind::WatchedWatchedSheet => {
-                let machine = sheet(heap, random)?;
+                let machine = sheet(heap, random, size)?;
                 let below = watched(heap, random, machine)?;
                 let game = watched(heap, random, below)?;
                 contest.play(random, &game)

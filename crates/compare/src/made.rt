@@ -1,4 +1,4 @@
-use crate::draws;
+use crate::draws::{self, Size};
 use anyhow::Result;
 use games::lift::Lift;
 use games::machine::Machine;
@@ -11,17 +11,14 @@ use std::alloc::Global;
 
 // Each makes a machine through its public calls, and the arena from the same bytes or numbers.
 
-pub fn sheet(heap: Global, random: &mut Random) -> Result<(SheetMachine, Arena)> {
-    let size = draws::machine_size(random);
+pub fn sheet(heap: Global, random: &mut Random, size: Size) -> Result<(SheetMachine, Arena)> {
     let bytes = draws::sheet(heap, random, size)?;
     let mut machine = SheetMachine::new(heap)?;
     machine.load(bytes.as_slice())?;
     Ok((machine, Arena::of_sheet(heap, bytes.as_slice())?))
 }
 
-pub fn lift(heap: Global, random: &mut Random) -> Result<(Lift, Arena)> {
-    let most = if random.once_in(25) { 30 } else { 8 };
-    let (floors, signals) = (2 + random.byte_up_to(most), 2 + random.byte_up_to(2));
+pub fn lift(heap: Global, floors: u8, signals: u8) -> Result<(Lift, Arena)> {
     Ok((
         Lift::new(floors, signals)?,
         Arena::lift(heap, floors, signals)?,

@@ -7,13 +7,13 @@ pub struct Arena {
     pub states: u16,
     pub own: u8,
     pub partner: u8,
-    pub start: u16,
+    pub(crate) start: u16,
     /// By state, as the next two.
-    pub labels: Vec<u8>,
-    pub forbidden: Vec<bool>,
-    pub goals: Vec<bool>,
+    pub(crate) labels: Vec<u8>,
+    pub(crate) forbidden: Vec<bool>,
+    pub(crate) goals: Vec<bool>,
     /// The next states, ascending, of each state, own signal and partner signal in turn.
-    pub moves: Vec<Vec<u16>>,
+    pub(crate) moves: Vec<Vec<u16>>,
 }
 
 impl Arena {
@@ -98,7 +98,7 @@ impl Arena {
     }
 
     /// The next states, ascending; none where a signal is out of range.
-    pub fn next(&self, state: u16, own: u8, partner: u8) -> &[u16] {
+    pub(crate) fn next(&self, state: u16, own: u8, partner: u8) -> &[u16] {
         if own >= self.own || partner >= self.partner {
             return &[];
         }
@@ -110,15 +110,15 @@ impl Arena {
         }
     }
 
-    pub fn label(&self, state: u16) -> u8 {
+    pub(crate) fn label(&self, state: u16) -> u8 {
         byte(self.labels.as_slice(), usize::from(state))
     }
 
-    pub fn is_forbidden(&self, state: u16) -> bool {
+    pub(crate) fn is_forbidden(&self, state: u16) -> bool {
         self.forbidden.get(usize::from(state)) != Some(&false)
     }
 
-    pub fn is_goal(&self, state: u16) -> bool {
+    pub(crate) fn is_goal(&self, state: u16) -> bool {
         self.goals.get(usize::from(state)) == Some(&true)
     }
 }

@@ -4,18 +4,20 @@ use crate::lifting::has_controller;
 use crate::seat::{Seat, Side};
 use std::alloc::{AllocError, Global};
 
-/// What a search finds: each side's promise, and the tries.
+/// What a search finds: a deal, told by both sides' terms and the sizes of its table, and its tries.
 #[derive(Clone, Copy, PartialEq, Eq, Debug)]
 pub struct Found {
     pub promises: [u32; 2],
-    pub tries: u32,
+    pub reliances: [u32; 2],
+    pub signed: [u8; 3],
+    pub tries: u16,
 }
 
 /// Why a search finds nothing: a refusal's number, and the tries where they are told.
 #[derive(Clone, Copy, PartialEq, Eq, Debug)]
 pub struct Unfound {
     pub number: u16,
-    pub tries: Option<u32>,
+    pub tries: Option<u16>,
 }
 
 /// The most candidates that a search takes on, and the largest allowance.
@@ -111,16 +113,21 @@ impl Facing<'_> {
             promises(heap, phases, own)?,
             promises(heap, phases, partner)?,
         );
-        let mut tries = 0u32;
+        let mut tries = 0u16;
         for own in &owns {
             for partner in &partners {
-                if tries == allowance {
+                if u32::from(tries) == allowance {
                     return Ok(refused(26, Some(tries)));
                 }
                 tries = tries.saturating_add(1);
                 let promises = [*own, *partner];
                 if self.workable(heap, promises)? {
-                    return Ok(Ok(Found { promises, tries }));
+                    return Ok(Ok(Found {
+                        promises,
+                        reliances: [*partner, *own],
+                        signed: self.sizes(),
+                        tries,
+                    }));
                 }
             }
         }
@@ -128,7 +135,7 @@ impl Facing<'_> {
     }
 }
 
-fn refused(number: u16, tries: Option<u32>) -> Result<Found, Unfound> {
+fn refused(number: u16, tries: Option<u16>) -> Result<Found, Unfound> {
     Err(Unfound { number, tries })
 }
 

@@ -17,7 +17,7 @@ pub struct Side {
 /// A side of a bay at its machine, with what it may show and has to expect written out by phases.
 #[derive(Drop)]
 pub struct Seat<'a> {
-    pub arena: &'a Arena,
+    pub(crate) arena: &'a Arena,
     table: &'a [u8],
     side: Side,
     promised: Vec<Vec<u8>>,
@@ -85,7 +85,7 @@ impl<'a> Seat<'a> {
     }
 
     /// Whether there is such a side, and machine, table and deal are of the same sizes.
-    pub fn suits(&self) -> bool {
+    pub(crate) fn suits(&self) -> bool {
         let sizes = [
             byte(self.table, 0),
             byte(self.table, 1),
@@ -100,16 +100,16 @@ impl<'a> Seat<'a> {
         machine && sizes == self.side.signed
     }
 
-    pub fn promised(&self, phase: u8) -> &[u8] {
+    pub(crate) fn promised(&self, phase: u8) -> &[u8] {
         listed(&self.promised, phase)
     }
 
-    pub fn relied(&self, phase: u8) -> &[u8] {
+    pub(crate) fn relied(&self, phase: u8) -> &[u8] {
         listed(&self.relied, phase)
     }
 
     /// The phase after a phase and both signals.
-    pub fn follow(&self, phase: u8, own: u8, partner: u8) -> u8 {
+    pub(crate) fn follow(&self, phase: u8, own: u8, partner: u8) -> u8 {
         let (first, second) = if self.side.number == 0 {
             (own, partner)
         } else {
