@@ -7,15 +7,22 @@ mod damage;
 mod draws;
 mod kinds;
 mod made;
+mod meeting;
+mod pairs;
 mod tally;
 
 use crate::contest::Contest;
 use crate::kinds::Kind;
+use crate::meeting::Meeting;
+use crate::pairs::Pair;
 use anyhow::Context;
 use rival::random::Random;
 
 /// How many games of each kind.
 const GAMES: u64 = 1200;
+
+/// How many pairs of games of each kind meet.
+const MEETINGS: u64 = 300;
 
 fn main(rt: HostRuntime) -> anyhow::Result<()> {
     let heap = rt.alloc();
@@ -31,6 +38,18 @@ fn main(rt: HostRuntime) -> anyhow::Result<()> {
             &contest.solved, contest.farthest
         )?;
         println!(rt; "check, {kind}: {}", &contest.checked)?;
+    }
+    let mut meeting = Meeting::new(heap)?;
+    for pair in Pair::ALL {
+        meeting.clear();
+        for seed in 0..MEETINGS {
+            pair.play(heap, &mut meeting, &mut Random::new(seed))
+                .context(format_args!("{pair}, seed {seed}"))?;
+        }
+        println!(rt;
+            "search, {pair}: {}, at most {} tries",
+            &meeting.searched, meeting.longest
+        )?;
     }
     Ok(())
 }

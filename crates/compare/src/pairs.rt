@@ -1,0 +1,156 @@
+use crate::draws::{self, Size};
+use crate::made::{lift, marked, sheet, watched};
+use crate::meeting::Meeting;
+use anyhow::Result;
+use rival::random::Random;
+use std::alloc::Global;
+use std::fmt;
+
+/// Which games meet.
+#[derive(Clone, Copy)]
+pub enum Pair {
+    MarkedSheets,
+    WatchedSheets,
+    WatchedAndMarkedSheets,
+    LiftAndSheet,
+    SheetAndLift,
+    Lifts,
+}
+
+/// Machines for both sides of a table of these sizes.
+#[derive(Clone, Copy)]
+struct Sizes {
+    first: Size,
+    second: Size,
+    table: [u8; 3],
+}
+
+/// Sizes of a phase table with at most 243 pairs of promises, seldom any.
+fn few_candidates(random: &mut Random) -> [u8; 3] {
+    let (many, some, few) = (
+        1 + random.byte_up_to(7),
+        1 + random.byte_up_to(4),
+        1 + random.byte_up_to(1),
+    );
+    match random.up_to(10) {
+        0 => [many, 1, 1],
+        1 => [some, 2, 1],
+        2 => [some, 1, 2],
+        3..=5 => [few, 2, 2],
+        6 => [1, 3, 2],
+        7 => [1, 2, 3],
+        8 => [1, 3, 3],
+        9 => [1, 4, 4],
+        _ => draws::sizes(random),
+    }
+}
+
+impl Pair {
+    pub const ALL: [Pair; 6] = [
+        Pair::MarkedSheets,
+        Pair::WatchedSheets,
+        Pair::WatchedAndMarkedSheets,
+        Pair::LiftAndSheet,
+        Pair::SheetAndLift,
+        Pair::Lifts,
+    ];
+
+    /// Sizes for these games, mostly such that there are few candidates: a lift has four signals of its own.
+    fn sizes(self, random: &mut Random) -> Sizes {
+        let [phases, first, second] = few_candidates(random);
+        let some = 2 + random.byte_up_to(2);
+        let table = match self {
+            Pair::MarkedSheets | Pair::WatchedSheets | Pair::WatchedAndMarkedSheets => {
+                [phases, first, second]
+            }
+            Pair::LiftAndSheet => [1, 4, some],
+            Pair::SheetAndLift => [1, some, 4],
+            Pair::Lifts => [1, 4, 4],
+        };
+        let [_, own, partner] = table;
+        Sizes {
+            first: Size {
+                states: 1 + random.up_to(5),
+                own,
+                partner,
+            },
+            second: Size {
+                states: 1 + random.up_to(5),
+                own: partner,
+                partner: own,
+            },
+            table,
+        }
+    }
+
+    /// Makes two games, and lets them meet.
+    pub fn play(self, heap: Global, meeting: &mut Meeting, random: &mut Random) -> Result<()> {
+        let sizes = self.sizes(random);
+        let Sizes {
+            first,
+            second,
+            table,
+        } = sizes;
+        let floors = 2 + random.byte_up_to(4);
+        match self {
+            Pair::MarkedSheets => {
+                let (first, second) = (sheet(heap, random, first)?, sheet(heap, random, second)?);
+                let first = marked(heap, random, first)?;
+                let second = marked(heap, random, second)?;
+                meeting.play(random, table, &first, &second)
+            }
+            Pair::WatchedSheets => {
+                let (first, second) = (sheet(heap, random, first)?, sheet(heap, random, second)?);
+                let first = watched(heap, random, first)?;
+                let second = watched(heap, random, second)?;
+                meeting.play(random, table, &first, &second)
+            }
+            Pair::WatchedAndMarkedSheets => {
+                let (first, second) = (sheet(heap, random, first)?, sheet(heap, random, second)?);
+                let first = watched(heap, random, first)?;
+                let second = marked(heap, random, second)?;
+                meeting.play(random, table, &first, &second)
+            }
+            Pair::LiftAndSheet => {
+                let (first, second) = (
+                    lift(heap, floors, first.partner)?,
+                    sheet(heap, random, second)?,
+                );
+                let first = watched(heap, random, first)?;
+                let second = marked(heap, random, second)?;
+                meeting.play(random, table, &first, &second)
+            }
+            Pair::SheetAndLift => {
+                let (first, second) = (
+                    sheet(heap, random, first)?,
+                    lift(heap, floors, second.partner)?,
+                );
+                let first = watched(heap, random, first)?;
+                let second = marked(heap, random, second)?;
+                meeting.play(random, table, &first, &second)
+            }
+            Pair::Lifts => {
+                let (first, second) = (
+                    lift(heap, floors, first.partner)?,
+                    lift(heap, floors, second.partner)?,
+                );
+                let first = marked(heap, random, first)?;
+                let second = watched(heap, random, second)?;
+                meeting.play(random, table, &first, &second)
+            }
+        }
+    }
+}
+
+impl fmt::Display for Pair {
+    fn fmt<W: fmt::Write>(&self, f: &mut fmt::Formatter<W>) -> fmt::Result {
+        f.write_str(match self {
+            Pair::MarkedSheets => "marked sheets",
+            Pair::WatchedSheets => "watched sheets",
+            Pair::WatchedAndMarkedSheets => "a watched and a marked sheet",
+            Pair::LiftAndSheet => "a watched lift and a marked sheet",
+            Pair::SheetAndLift => "a watched sheet and a marked lift",
+            Pair::Lifts => "a marked and a watched lift",
+        })
+    }
+}
