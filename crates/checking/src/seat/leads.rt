@@ -1,6 +1,8 @@
-ghost use Rattle.std.specs.Prelude.{ℕ, Decides, MatchOption};
+ghost use Rattle.std.specs.Prelude.{◌≡◌, ℕ, Decides, MatchOption};
+ghost use Rattle.reading.specs.Firsts.{some_below};
+ghost use Rattle.checking.specs.Arenas.{relied};
 ghost use Rattle.checking.specs.Snapshots.{played};
-ghost use Rattle.checking.specs.Solving.{Answered, Leading, First};
+ghost use Rattle.checking.specs.Solving.{Answered, Leading, First, Near};
 
 use crate::seat::Seat;
 use crate::snapshot::{SIGNALS, Snapshot};
@@ -32,5 +34,31 @@ impl Seat<'_, Snapshot> {
         ensures { MatchOption result ((x : ℕ) → Leading (played self.now) sets.now at.state at.phase x → ⊥) (First (played self.now) sets.now at.state at.phase) }
     {
         (0..SIGNALS).find(|own| self.leads(sets, at, *own))
+    }
+    /// Whether the side relies on any signal in a phase.
+    fn relies(&self, phase: u8) -> bool
+        ensures { result ≡ some_below 4 (relied self.now.deal.now self.now.side phase) }
+    {
+        (0..SIGNALS).any(|partner| self.relied(phase, partner))
+    }
+
+    /// The states from which a move in a phase may come into sets, given for each next phase the states with a move into its set.
+    pub(crate) fn near(&self, sources: &[StateSet; 8], phase: u8) -> StateSet
+        ensures { Near (played self.now) sources.now phase result }
+    {
+        // with no signal to rely on each state is led into any sets
+        if !self.relies(phase) {
+            return StateSet::of(self.game.states(), |_| true);
+        }
+        let mut near = StateSet::empty();
+        for own in 0..SIGNALS {
+            for partner in 0..SIGNALS {
+                if self.promised(phase, own) && self.relied(phase, partner) {
+                    let follow = self.follow(phase, own, partner);
+                    near = near.or(&sources[usize::from(follow)]);
+                }
+            }
+        }
+        near
     }
 }
