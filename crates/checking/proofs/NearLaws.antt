@@ -1,12 +1,12 @@
 -- Only positions near the layer before join a layer: what has no move into that layer is led nowhere that it was not led before.
-use Rattle.std.proofs.Common.{◌≡◌, ℕ, ◌+◌, ◌-◌, ◌<◌, ◌≤◌, true, false, not, ◌&&◌, ◌||◌, ◌⊎◌, List, length, get_or, set, replicate, refl, sym, ap, ◌∙◌, inl, inr, arith, get_or-set_other, get_or-set_same}
+use Rattle.std.proofs.Common.{◌≡◌, ℕ, ◌+◌, ◌-◌, ◌<◌, ◌≤◌, true, false, not, ◌&&◌, ◌||◌, ◌⊎◌, eqb, List, length, get_or, set, replicate, refl, sym, ap, ◌∙◌, inl, inr, arith, get_or-set_other, get_or-set_same}
 use Rattle.std.proofs.lemmas.List.{get_or-replicate}
-use Rattle.std.proofs.lemmas.Bool.{cases_lt, cases_eq, cases_Bool, both_ways, ltb-true, lt-ltb, le-ltb, and_from, not_from_false, or_left, or_right}
+use Rattle.std.proofs.lemmas.Bool.{cases_lt, cases_eq, cases_Bool, both_ways, ltb-true, lt-ltb, le-ltb, and_from, not_from_false, or_left, or_right, eq-eqb}
 use Rattle.checking.specs.declared.state_set.StateSet.{StateSet}
 use Rattle.checking.specs.declared.ranking.Ranking.{Ranking}
 use Rattle.checking.specs.StateSets.{member, nothing}
 use Rattle.checking.specs.Arenas.{Arena}
-use Rattle.checking.specs.Solving.{Leads, Tracks, Attracted, Bounded, ranks_in, Layering, Barred, Near, Entered, Quiet}
+use Rattle.checking.specs.Solving.{Leads, Tracks, Attracted, Bounded, ranks_in, Layering, Barred, After, Near, Entered, Quiet}
 use Rattle.checking.proofs.SourceLaws.{no_member}
 use Rattle.checking.proofs.PlaceLaws.{before_turn}
 use Rattle.checking.proofs.AttractorLaws.{leads_into, full_else}
@@ -82,40 +82,54 @@ module _ (a : Arena) (earlier sets sources : List StateSet) (k : ℕ) (w : Enter
     | inr n ↦ ap (λ y. member y s) (rw get_or-set_other refl) ∙ w s x b t q (omega (arith, n)) m e f
   ]
 
--- the pairs of signals before own signal x and partner signal b
-abbrev pub NearBefore : Arena → List StateSet → ℕ → StateSet → ℕ → ℕ → Type 0
-NearBefore a sources p near x b = (s y v : ℕ) → v < 4 → (y < x) ⊎ ((y ≡ x) × (v < b)) → a.promised p y ≡ true → a.relied p v ≡ true
-    → member (get_or sources (a.follow p y v) nothing) s ≡ true → member near s ≡ true
+-- the phases after those pairs of signals that come before own signal x and partner signal b
+abbrev pub AfterBefore : Arena → ℕ → StateSet → ℕ → ℕ → Type 0
+AfterBefore a p after x b = (y v : ℕ) → v < 4 → (y < x) ⊎ ((y ≡ x) × (v < b)) → a.promised p y ≡ true → a.relied p v ≡ true → member after (a.follow p y v) ≡ true
 
-module _ (a : Arena) (sources : List StateSet) (p : ℕ) (near : StateSet) (x b : ℕ) (w : NearBefore a sources p near x b) where
-  pub near_skip : (a.promised p x ≡ true → a.relied p b ≡ true → ⊥) → NearBefore a sources p near x (b + 1)
-  near_skip never s y v l h hy hv e = elim h [
-    | inl k ↦ w s y v l (inl k) hy hv e
+module _ (a : Arena) (p : ℕ) (after : StateSet) (x b : ℕ) (w : AfterBefore a p after x b) where
+  pub after_skip : (a.promised p x ≡ true → a.relied p b ≡ true → ⊥) → AfterBefore a p after x (b + 1)
+  after_skip never y v l h hy hv = elim h [
+    | inl k ↦ w y v l (inl k) hy hv
     | inr k ↦ elim (cases_lt v b) [
-      | inl m ↦ w s y v l (inr (k.0, m)) hy hv e
+      | inl m ↦ w y v l (inr (k.0, m)) hy hv
       | inr m ↦ (let q : v ≡ b = omega (arith, k.1) in absurd (never (rw k.0 at hy) (rw q at hv)))
     ]
   ]
 
-  pub near_add : (new : StateSet) (q : ℕ) → q ≡ a.follow p x b → ((s : ℕ) → member new s ≡ (member near s || member (get_or sources q nothing) s)) → NearBefore a sources p new x (b + 1)
-  near_add new q f put s y v l h hy hv e = put s ∙ (elim h [
-    | inl k ↦ or_left _ _ (w s y v l (inl k) hy hv e)
+  pub after_add : (new : StateSet) (q : ℕ) → q ≡ a.follow p x b → ((t : ℕ) → member new t ≡ (eqb t q || member after t)) → AfterBefore a p new x (b + 1)
+  after_add new q f put y v l h hy hv = put (a.follow p y v) ∙ (elim h [
+    | inl k ↦ or_right _ _ (w y v l (inl k) hy hv)
     | inr k ↦ elim (cases_lt v b) [
-      | inl m ↦ or_left _ _ (w s y v l (inr (k.0, m)) hy hv e)
-      | inr m ↦ (let i : v ≡ b = omega (arith, k.1) in or_right (member near s) _ (ap (λ j. member (get_or sources j nothing) s) (f ∙ ap (a.follow p x) (sym i) ∙ ap (λ j. a.follow p j v) (sym k.0)) ∙ e))
+      | inl m ↦ or_right _ _ (w y v l (inr (k.0, m)) hy hv)
+      | inr m ↦ (let i : v ≡ b = omega (arith, k.1) in or_left _ (member after (a.follow p y v)) (eq-eqb _ _ (ap (a.follow p y) i ∙ ap (λ j. a.follow p j b) k.0 ∙ sym f)))
     ]
   ])
 
-  pub near_turn : 4 ≤ b → NearBefore a sources p near (x + 1) 0
-  near_turn end s y v l h = elim h [
-    | inl k ↦ elim (cases_lt y x) [ inl m ↦ w s y v l (inl m) | inr m ↦ w s y v l (inr (omega arith, omega arith)) ]
+  pub after_turn : 4 ≤ b → AfterBefore a p after (x + 1) 0
+  after_turn end y v l h = elim h [
+    | inl k ↦ elim (cases_lt y x) [ inl m ↦ w y v l (inl m) | inr m ↦ w y v l (inr (omega arith, omega arith)) ]
     | inr k ↦ absurd (omega (arith, k.1))
   ]
 
-pub near_done : (a : Arena) → Bounded a → (sources : List StateSet) (p : ℕ) (near : StateSet) (x : ℕ) → 4 ≤ x → NearBefore a sources p near x 0 → (b : ℕ) × (a.relied p b ≡ true) → Near a sources p near
-near_done a b sources p near x end w some = record {
+pub after_done : (a : Arena) → Bounded a → (p : ℕ) (after : StateSet) (x : ℕ) → 4 ≤ x → AfterBefore a p after x 0 → After a p after
+after_done a b p after x end w y v hy hv = w y v (b.relies p v hv) (inl (omega (arith, b.promises p y hy))) hy hv
+
+-- the same for each phase below k
+abbrev pub TurnsBelow : Arena → List StateSet → ℕ → Type 0
+TurnsBelow a turns k = (p : ℕ) → p < k → After a p (get_or turns p nothing)
+
+pub turns_next : (a : Arena) (turns : List StateSet) (k : ℕ) → TurnsBelow a turns k → k < length turns → (after : StateSet) → After a k after → TurnsBelow a (set turns k after) (k + 1)
+turns_next a turns k w long after here p l x b hx hb = elim (cases_eq p k) [
+  | inl q ↦ ap (λ i. member (get_or (set turns k after) i nothing) (a.follow p x b)) q ∙ ap (λ y. member y (a.follow p x b)) (rw get_or-set_same refl)
+      ∙ ap (λ i. member after (a.follow i x b)) q ∙ here x b (rw q at hx) (rw q at hb)
+  | inr n ↦ ap (λ y. member y (a.follow p x b)) (rw get_or-set_other refl) ∙ w p (omega (arith, n)) x b hx hb
+]
+
+pub near_some : (a : Arena) (sources : List StateSet) (p : ℕ) (after near : StateSet) → After a p after → (b : ℕ) × (a.relied p b ≡ true)
+    → ((t s : ℕ) → member after t ≡ true → member (get_or sources t nothing) s ≡ true → member near s ≡ true) → Near a sources p near
+near_some a sources p after near w some all = record {
   idle = λ never. absurd (never some.0 some.1);
-  sourced = λ s y v hy hv e. w s y v (b.relies p v hv) (inl (omega (arith, b.promises p y hy))) hy hv e;
+  sourced = λ s y v hy hv e. all (a.follow p y v) s (w y v hy hv) e;
 }
 
 pub near_all : (a : Arena) (sources : List StateSet) (p : ℕ) (near : StateSet) → ((b : ℕ) → a.relied p b ≡ true → ⊥) → ((s : ℕ) → s < a.states → member near s ≡ true) → Near a sources p near

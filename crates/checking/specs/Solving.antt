@@ -213,6 +213,14 @@ pub record Holds (xs : List ℕ) (size place : ℕ) (e : Entry) : Type 0 where
   pub choice : byte xs (4 + place) ≡ e.choice
   pub rank : pair xs (4 + size + 2 * place) ≡ e.rank
 
+-- the phases that can come after a phase are all in a set
+abbrev pub After : Arena → ℕ → StateSet → Type 0
+After a p after = (x b : ℕ) → a.promised p x ≡ true → a.relied p b ≡ true → member after (a.follow p x b) ≡ true
+
+-- for each phase the phases that can come after it
+abbrev pub Turns : Arena → List StateSet → Type 0
+Turns a turns = (p : ℕ) → p < a.phases → After a p (slice_index_or turns p nothing)
+
 -- which states a phase's moves may come from, given for each next phase the states with a move to where it matters; all, where
 -- no signal is relied on
 pub record Near (a : Arena) (sources : List StateSet) (p : ℕ) (near : StateSet) : Type 0 where

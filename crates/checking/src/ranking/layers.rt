@@ -1,6 +1,6 @@
 ghost use Rattle.std.specs.Prelude.{◌+◌, ◌-◌, ◌<◌, ◌≡◌, false, MatchOption};
 ghost use Rattle.checking.specs.Snapshots.{played};
-ghost use Rattle.checking.specs.Solving.{ranks_in, zeros, Attracted, Layers, Layering, Tracks, Joining, Barred, Entered, Quiet};
+ghost use Rattle.checking.specs.Solving.{ranks_in, zeros, Attracted, Layers, Layering, Tracks, Joining, Barred, Turns, Entered, Quiet};
 
 use crate::ranking::{Entry, Ranking};
 use crate::seat::Seat;
@@ -69,9 +69,16 @@ impl Ranking {
     }
 
     /// Adds a layer: the positions led into the ranks below its depth. Whether there are any.
-    fn add_layer(&mut self, seat: &Seat<'_, Snapshot>, earlier: &[StateSet; 8], depth: u16) -> bool
+    fn add_layer(
+        &mut self,
+        seat: &Seat<'_, Snapshot>,
+        turns: &[StateSet; 8],
+        earlier: &[StateSet; 8],
+        depth: u16,
+    ) -> bool
         requires some { 0 < depth }
         requires few { depth < 65535 }
+        requires turns { Turns (played seat.now) turns.now }
         requires before { Attracted (played seat.now) self.old depth }
         requires earlier { Tracks (played seat.now) earlier.now (ranks_in (played seat.now) self.old) (depth - 1) }
         ensures after { Attracted (played seat.now) self.new (depth + 1) }
@@ -85,7 +92,7 @@ impl Ranking {
         let mut next = self.ranked;
         // a loop, since a chain would hold the ranking that it changes
         for phase in 0..seat.table.phases() {
-            let near = seat.near(&sources, phase);
+            let near = seat.near(phase, &turns[usize::from(phase)], &sources);
             self.add_near(seat, depth, phase, &near, &mut next);
         }
         let grown = next != self.ranked;
@@ -93,16 +100,17 @@ impl Ranking {
         grown
     }
 
-    /// Ranks every position from which the side comes to a target.
-    pub(crate) fn attract(&mut self, seat: &Seat<'_, Snapshot>)
-        requires { Attracted (played seat.now) self.old 1 }
+    /// Ranks every position from which the side comes to a target, given the phases that can come after each phase.
+    pub(crate) fn attract(&mut self, seat: &Seat<'_, Snapshot>, turns: &[StateSet; 8])
+        requires turns { Turns (played seat.now) turns.now }
+        requires before { Attracted (played seat.now) self.old 1 }
         ensures after { Attracted (played seat.now) self.new 65535 }
         ensures zeros { zeros self.new ≡ zeros self.old }
     {
         let mut earlier = [StateSet::empty(); 8];
         for depth in 1..NO_RANK {
             let ranked = self.ranked;
-            if !self.add_layer(seat, &earlier, depth) {
+            if !self.add_layer(seat, turns, &earlier, depth) {
                 return;
             }
             earlier = ranked;

@@ -2,7 +2,7 @@ ghost use Rattle.std.specs.Prelude.{◌≡◌, ℕ, Decides, MatchOption};
 ghost use Rattle.reading.specs.Firsts.{some_below};
 ghost use Rattle.checking.specs.Arenas.{relied};
 ghost use Rattle.checking.specs.Snapshots.{played};
-ghost use Rattle.checking.specs.Solving.{Answered, Leading, First, Near};
+ghost use Rattle.checking.specs.Solving.{Answered, Leading, First, After, Turns, Near};
 
 use crate::seat::Seat;
 use crate::snapshot::{SIGNALS, Snapshot};
@@ -42,23 +42,43 @@ impl Seat<'_, Snapshot> {
         (0..SIGNALS).any(|partner| self.relied(phase, partner))
     }
 
-    /// The states from which a move in a phase may come into sets, given for each next phase the states with a move into its set.
-    pub(crate) fn near(&self, sources: &[StateSet; 8], phase: u8) -> StateSet
-        ensures { Near (played self.now) sources.now phase result }
+    /// The phases that can come after a phase.
+    fn phases_after(&self, phase: u8) -> StateSet
+        ensures { After (played self.now) phase result }
     {
-        // with no signal to rely on each state is led into any sets
-        if !self.relies(phase) {
-            return StateSet::of(self.game.states(), |_| true);
-        }
-        let mut near = StateSet::empty();
+        let mut after = StateSet::empty();
         for own in 0..SIGNALS {
             for partner in 0..SIGNALS {
                 if self.promised(phase, own) && self.relied(phase, partner) {
-                    let follow = self.follow(phase, own, partner);
-                    near = near.or(&sources[usize::from(follow)]);
+                    after.insert(u16::from(self.follow(phase, own, partner)));
                 }
             }
         }
-        near
+        after
+    }
+
+    /// For each phase the phases that can come after it.
+    pub(crate) fn turns(&self) -> [StateSet; 8]
+        ensures { Turns (played self.now) result }
+    {
+        let mut turns = [StateSet::empty(); 8];
+        for phase in 0..self.table.phases() {
+            turns[usize::from(phase)] = self.phases_after(phase);
+        }
+        turns
+    }
+
+    /// The states from which a move in a phase may come into sets, given the phases that can come after, and for each of these the
+    /// states with a move into its set.
+    pub(crate) fn near(&self, phase: u8, after: &StateSet, sources: &[StateSet; 8]) -> StateSet
+        requires { After (played self.now) phase after.now }
+        ensures { Near (played self.now) sources.now phase result }
+    {
+        // with no signal to rely on each state is led into any sets
+        if self.relies(phase) {
+            after.union_at(sources)
+        } else {
+            StateSet::of(self.game.states(), |_| true)
+        }
     }
 }

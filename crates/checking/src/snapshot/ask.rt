@@ -43,13 +43,7 @@ impl Snapshot {
     pub(crate) fn sources_of(&self, set: &StateSet) -> StateSet
         ensures { (s x b t : ℕ) → snap_move self.now s x b t ≡ true → member set.now t ≡ true → member result s ≡ true }
     {
-        let mut all = StateSet::empty();
-        let mut from = 0;
-        while let Some(state) = set.first_from(from) {
-            all = all.or(&self.sources[usize::from(state)]);
-            from = state + 1;
-        }
-        all
+        set.union_at(&self.sources)
     }
 
     /// Whether a state is forbidden.

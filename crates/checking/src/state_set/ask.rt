@@ -1,4 +1,4 @@
-ghost use Rattle.std.specs.Prelude.{◌<◌, ◌≡◌, ℕ, ◌≤◌, true, false, not, ◌&&◌, ◌||◌, Decides, MatchOption, ◌==◌};
+ghost use Rattle.std.specs.Prelude.{◌<◌, ◌≡◌, ℕ, ◌≤◌, true, false, not, ◌&&◌, ◌||◌, Decides, MatchOption, ◌==◌, slice_index_or};
 ghost use Rattle.reading.specs.Bytes.{bit};
 ghost use Rattle.checking.specs.StateSets.{member, nothing, FirstFrom};
 
@@ -17,6 +17,15 @@ fn lowest(word: u128, from: u16) -> Option<u16>
         return None;
     }
     Some(from + rest.trailing_zeros() as u16)
+}
+
+/// The set at a place, none past their end.
+fn set_at(sets: &[StateSet], place: u16) -> StateSet
+    ensures { result ≡ slice_index_or sets.now place nothing }
+{
+    sets.get(usize::from(place))
+        .copied()
+        .unwrap_or(StateSet::empty())
 }
 
 impl StateSet {
@@ -116,5 +125,17 @@ impl StateSet {
             low: self.low & !other.low,
             high: self.high & !other.high,
         }
+    }
+    /// The union of the sets whose places are in this one; a place past their end has none.
+    pub(crate) fn union_at(&self, sets: &[StateSet]) -> StateSet
+        ensures { (t s : ℕ) → member self.now t ≡ true → member (slice_index_or sets.now t nothing) s ≡ true → member result s ≡ true }
+    {
+        let mut all = StateSet::empty();
+        let mut from = 0;
+        while let Some(place) = self.first_from(from) {
+            all = all.or(&set_at(sets, place));
+            from = place + 1;
+        }
+        all
     }
 }

@@ -8,7 +8,7 @@ use Rattle.checking.proofs.PassLaws.{tracks_top}
 use Rattle.checking.proofs.ranking.Ranking.attract.Goals as goal
 
 pub loop-depth-init : goal.loop-depth-init
-loop-depth-init c = (c.requires, tracks_none (played c.args.seat.now) (bounded c.args.seat.now) c.empty-earlier.result c.empty-earlier.ensures (ranks_in (played c.args.seat.now) c.args.self.now), refl)
+loop-depth-init c = (c.requires.before, tracks_none (played c.args.seat.now) (bounded c.args.seat.now) c.empty-earlier.result c.empty-earlier.ensures (ranks_in (played c.args.seat.now) c.args.self.now), refl)
 
 pub returns-then-not-add_layer-clause-after : goal.returns-then-not-add_layer-clause-after
 returns-then-not-add_layer-clause-after c =
