@@ -4,7 +4,8 @@ use Rattle.std.proofs.lemmas.Bool.{eq-eqb, ne_eqb, lt-ltb, le-ltb, lt-leb, le-le
 use Rattle.games.specs.Machines.{Model, Marks, Lawful, forbidden_in, goal_in}
 use Rattle.checking.specs.declared.state_set.StateSet.{StateSet}
 use Rattle.checking.specs.StateSets.{member}
-use Rattle.checking.specs.Snapshots.{row_of, rows_move, set_forbidden, set_goal}
+use Rattle.checking.specs.Sources.{row_of, rows_move}
+use Rattle.checking.specs.Snapshots.{set_forbidden, set_goal}
 
 -- of the states below i a set has those that pass, and it has no other
 pub record Gathered (P : ℕ → Bool → Type 0) (x : StateSet) (i : ℕ) : Type 0 where

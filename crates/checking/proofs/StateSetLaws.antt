@@ -1,16 +1,19 @@
 -- Laws of sets of states.
-use Rattle.std.proofs.Common.{◌≡◌, ℕ, zero, suc, ◌+◌, ◌-◌, ◌*◌, ◌/◌, ◌%◌, ◌^◌, ◌<◌, ◌≤◌, Bool, true, false, ◌&&◌, ◌||◌, eqb, sym, refl, ap, ◌∙◌, inl, inr, Decides, arith}
+use Rattle.std.proofs.Common.{◌≡◌, ℕ, zero, suc, ◌+◌, ◌-◌, ◌*◌, ◌/◌, ◌%◌, ◌^◌, ◌<◌, ◌≤◌, Bool, true, false, not, ◌&&◌, ◌||◌, eqb, sym, refl, ap, ◌∙◌, inl, inr, Decides, arith}
 use native.Mathlib.Nat.{two-pow-succ}
 use Rattle.std.proofs.Math.Bool.{or_comm}
 use lib.Bits.{bit_and, bit_or}
-use Rattle.std.proofs.lemmas.Bool.{eqb-true, and_parts, and_from, eq-eqb, ne_eqb, lt-ltb, le-ltb, cases_lt, cases_eq, cond-true, cond-false, both_ways}
-use Rattle.std.proofs.lemmas.Nat.{pow-add, pow_below, shl-shr, or_shr, or_mod, mod_below, one_shl}
+use mir.Syntax.{w128}
+use Rattle.std.specs.Int.{bit_not, bit_at, trailing_zeros}
+use Rattle.std.proofs.lemmas.Nat.Bits.{bit_at_not, bit_at-trailing_zeros}
+use Rattle.std.proofs.lemmas.Bool.{eqb-true, and_parts, and_from, eq-eqb, ne_eqb, lt-ltb, le-ltb, cases_lt, cases_eq, cond-true, cond-false, both_ways, cases_Bool}
+use Rattle.std.proofs.lemmas.Nat.{pow-add, pow_below, shl-shr, shr-shr, or_shr, or_mod, mod_below, one_shl, shr_le}
 use Rattle.reading.specs.Bytes.{bit}
 use Rattle.reading.specs.Marks.{implies}
-use Rattle.reading.proofs.Bits.{shift_none, bit_below, bit_of_and}
+use Rattle.reading.proofs.Bits.{shift_none, bit_below, bit_of_and, no_bit}
 use Rattle.games.proofs.SetLaws.{top_bit, and_inside}
 use Rattle.checking.specs.declared.state_set.StateSet.{StateSet}
-use Rattle.checking.specs.StateSets.{member}
+use Rattle.checking.specs.StateSets.{member, FirstFrom}
 
 -- one of two numbers has a bit exactly if their union has it
 pub bit_of_or : (x y i : ℕ) → bit (bit_or x y) i ≡ (bit x i || bit y i)
@@ -136,3 +139,87 @@ same_sets x y = (
   where
     join : x.low ≡ y.low → x.high ≡ y.high → x ≡ y
     join a b = λ i. record { low = a i; high = b i }
+
+-- the lowest bit from a place on
+
+shifted : (x f j : ℕ) → bit x (f + j) ≡ bit (x / 2 ^ f) j
+shifted x f j = ap (λ z. eqb (z % 2) 1) (sym (shr-shr x f j))
+
+pub lowest_none : (x f : ℕ) → x / 2 ^ f ≡ 0 → (i : ℕ) → f ≤ i → bit x i ≡ false
+lowest_none x f z i le =
+    let e : f + (i - f) ≡ i = omega arith in
+    ap (bit x) (sym e) ∙ shifted x f (i - f) ∙ ap (λ n. bit n (i - f)) z ∙ no_bit (i - f)
+
+pub lowest_some : (x f : ℕ) → x < 2 ^ 128 → (x / 2 ^ f ≡ 0 → ⊥) → FirstFrom (bit x) f 128 (f + trailing_zeros w128 (x / 2 ^ f))
+lowest_some x f l n =
+    let w = bit_at-trailing_zeros w128 (x / 2 ^ f) (omega arith) (omega (arith, shr_le x f)) in
+    let t = trailing_zeros w128 (x / 2 ^ f) in
+    let one : bit x (f + t) ≡ true = shifted x f t ∙ eq-eqb _ 1 w.1 in
+    record {
+      low = omega arith;
+      high = bit_below x 128 (f + t) l one;
+      here = one;
+      before = λ i le lt. (let e : f + (i - f) ≡ i = omega arith in
+          ap (bit x) (sym e) ∙ shifted x f (i - f) ∙ ne_eqb _ 1 (λ q. omega (arith, q, w.2 (i - f) (omega arith))));
+    }
+
+module _ (x : StateSet) (from : ℕ) where
+  pub first_low : (k : ℕ) → FirstFrom (bit x.low) from 128 k → FirstFrom (member x) from 256 k
+  first_low k w = record {
+    low = w.low;
+    high = omega (arith, w.high);
+    here = cond-true _ _ _ (lt-ltb k 128 w.high) ∙ w.here;
+    before = λ i le lt. cond-true _ _ _ (lt-ltb i 128 (omega (arith, w.high))) ∙ w.before i le lt;
+  }
+
+  -- none in the low word
+  abbrev pub LowNone : Type 0
+  LowNone = (i : ℕ) → from ≤ i → i < 128 → bit x.low i ≡ false
+
+  pub first_high : (k : ℕ) → LowNone → FirstFrom (bit x.high) (from - 128) 128 k → FirstFrom (member x) from 256 (k + 128)
+  first_high k none w = record {
+    low = omega (arith, w.low);
+    high = omega (arith, w.high);
+    here = cond-false _ _ _ (le-ltb (k + 128) 128 (omega arith)) ∙ (let e : k + 128 - 128 ≡ k = omega arith in ap (bit x.high) e) ∙ w.here;
+    before = λ i le lt. elim (cases_lt i 128) [
+      | inl l ↦ cond-true _ _ _ (lt-ltb i 128 l) ∙ none i le l
+      | inr l ↦ cond-false _ _ _ (le-ltb i 128 l) ∙ w.before (i - 128) (omega arith) (omega arith)
+    ];
+  }
+
+  pub first_none : LowNone → ((i : ℕ) → from - 128 ≤ i → bit x.high i ≡ false) → (t : ℕ) → from ≤ t → member x t ≡ false
+  first_none none high t le = elim (cases_lt t 128) [
+    | inl l ↦ cond-true _ _ _ (lt-ltb t 128 l) ∙ none t le l
+    | inr l ↦ cond-false _ _ _ (le-ltb t 128 l) ∙ high (t - 128) (omega arith)
+  ]
+
+-- no bit from the width up
+pub no_high : (x i : ℕ) → x < 2 ^ 128 → 128 ≤ i → bit x i ≡ false
+no_high x i l h = elim (cases_Bool (bit x i)) [ inl e ↦ absurd (omega (arith, h, bit_below x 128 i l e)) | inr e ↦ e ]
+
+-- unions and differences
+
+module _ (x y : StateSet) where
+  pub or_member : (t : ℕ) → member (record { low = bit_or x.low y.low; high = bit_or x.high y.high }) t ≡ (member x t || member y t)
+  or_member t = elim (cases_lt t 128) [
+    | inl l ↦ (let e = lt-ltb t 128 l in cond-true _ _ _ e ∙ bit_of_or x.low y.low t ∙ ap (λ b. b || bit y.low t) (sym (cond-true _ _ _ e)) ∙ ap (λ b. member x t || b) (sym (cond-true _ _ _ e)))
+    | inr l ↦ (let e = le-ltb t 128 l in cond-false _ _ _ e ∙ bit_of_or x.high y.high (t - 128) ∙ ap (λ b. b || bit y.high (t - 128)) (sym (cond-false _ _ _ e)) ∙ ap (λ b. member x t || b) (sym (cond-false _ _ _ e)))
+  ]
+
+flipped : (a b : ℕ) → b < 2 → a ≡ 1 - b → eqb a 1 ≡ not (eqb b 1)
+flipped a zero l e = rw e refl
+flipped a (suc zero) l e = rw e refl
+flipped a (suc (suc b)) l e = absurd (omega arith)
+
+word_minus : (a b i : ℕ) → a < 2 ^ 128 → b < 2 ^ 128 → bit (bit_and a (bit_not w128 b)) i ≡ (bit a i && not (bit b i))
+word_minus a b i la lb = bit_of_and a (bit_not w128 b) i ∙ (elim (cases_lt i 128) [
+  | inl l ↦ ap (λ z. bit a i && z) (flipped (bit_at (bit_not w128 b) i) (bit_at b i) (mod_below (b / 2 ^ i) 2 (omega arith)) (bit_at_not w128 b i lb l))
+  | inr l ↦ ap (λ z. z && bit (bit_not w128 b) i) (no_high a i la l) ∙ ap (λ z. z && not (bit b i)) (sym (no_high a i la l))
+])
+
+module _ (x y : StateSet) (xl : x.low < 2 ^ 128) (xh : x.high < 2 ^ 128) (yl : y.low < 2 ^ 128) (yh : y.high < 2 ^ 128) where
+  pub minus_member : (t : ℕ) → member (record { low = bit_and x.low (bit_not w128 y.low); high = bit_and x.high (bit_not w128 y.high) }) t ≡ (member x t && not (member y t))
+  minus_member t = elim (cases_lt t 128) [
+    | inl l ↦ (let e = lt-ltb t 128 l in cond-true _ _ _ e ∙ word_minus x.low y.low t xl yl ∙ ap (λ b. b && not (bit y.low t)) (sym (cond-true _ _ _ e)) ∙ ap (λ b. member x t && not b) (sym (cond-true _ _ _ e)))
+    | inr l ↦ (let e = le-ltb t 128 l in cond-false _ _ _ e ∙ word_minus x.high y.high (t - 128) xh yh ∙ ap (λ b. b && not (bit y.high (t - 128))) (sym (cond-false _ _ _ e)) ∙ ap (λ b. member x t && not b) (sym (cond-false _ _ _ e)))
+  ]

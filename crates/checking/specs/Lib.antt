@@ -1,4 +1,5 @@
 pub mod StateSets
+pub mod Sources
 pub mod Arenas
 pub mod Controllers
 pub mod Faults

@@ -1,21 +1,14 @@
 -- A game as a solver holds it: its next states as sets, asked for once.
-use Rattle.std.specs.Prelude.{◌≡◌, ℕ, Bool, ◌&&◌, ◌||◌, List, [], vec_items, nat_le, nat_lt, slice_index_or}
+use Rattle.std.specs.Prelude.{◌≡◌, ℕ, Bool, ◌&&◌, ◌||◌, vec_items, nat_le, nat_lt}
 use Rattle.reading.specs.declared.phase_table.PhaseTable.{PhaseTable}
 use Rattle.games.specs.declared.deal.Deal.{Deal}
 use Rattle.games.specs.Machines.{Model, Marks, forbidden_in, goal_in}
 use Rattle.checking.specs.declared.state_set.StateSet.{StateSet}
 use Rattle.checking.specs.declared.snapshot.Snapshot.{Snapshot}
 use Rattle.checking.specs.declared.seat.Seat.{Seat}
-use Rattle.checking.specs.StateSets.{member, nothing}
+use Rattle.checking.specs.StateSets.{member}
+use Rattle.checking.specs.Sources.{rows_move}
 use Rattle.checking.specs.Arenas.{Arena, promised, relied, follow}
-
--- the set of next states, by state, own signal and partner signal
-abbrev pub row_of : List (List (List StateSet)) → ℕ → ℕ → ℕ → StateSet
-row_of rows s x b = slice_index_or (slice_index_or (slice_index_or rows s []) x []) b nothing
-
--- a move of one of n states, by the rows
-abbrev pub rows_move : ℕ → List (List (List StateSet)) → ℕ → ℕ → ℕ → ℕ → Bool
-rows_move n rows s x b t = (nat_lt s n && (nat_lt x 4 && nat_lt b 4)) && member (row_of rows s x b) t
 
 -- a state out of range is forbidden and no goal
 abbrev pub set_forbidden : ℕ → StateSet → ℕ → Bool

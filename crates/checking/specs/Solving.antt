@@ -212,3 +212,26 @@ pub record Wrote (a : Arena) (z : Ranking) (xs : List ℕ) : Type 0 where
 pub record Holds (xs : List ℕ) (size place : ℕ) (e : Entry) : Type 0 where
   pub choice : byte xs (4 + place) ≡ e.choice
   pub rank : pair xs (4 + size + 2 * place) ≡ e.rank
+
+-- the phases that can come after a phase are all in a set
+abbrev pub After : Arena → ℕ → StateSet → Type 0
+After a p after = (x b : ℕ) → a.promised p x ≡ true → a.relied p b ≡ true → member after (a.follow p x b) ≡ true
+
+-- for each phase the phases that can come after it
+abbrev pub Turns : Arena → List StateSet → Type 0
+Turns a turns = (p : ℕ) → p < a.phases → After a p (slice_index_or turns p nothing)
+
+-- which states a phase's moves may come from, given for each next phase the states with a move to where it matters; all, where
+-- no signal is relied on
+pub record Near (a : Arena) (sources : List StateSet) (p : ℕ) (near : StateSet) : Type 0 where
+  pub idle : ((b : ℕ) → a.relied p b ≡ true → ⊥) → (s : ℕ) → s < a.states → member near s ≡ true
+  pub sourced : (s x b : ℕ) → a.promised p x ≡ true → a.relied p b ≡ true → member (slice_index_or sources (a.follow p x b) nothing) s ≡ true → member near s ≡ true
+
+-- for each phase the states with a move into what its set has beyond an earlier one
+abbrev pub Entered : Arena → List StateSet → List StateSet → List StateSet → Type 0
+Entered a earlier sets sources = (s x b t q : ℕ) → q < a.phases → a.move s x b t ≡ true → member (slice_index_or sets q nothing) t ≡ true
+    → member (slice_index_or earlier q nothing) t ≡ false → member (slice_index_or sources q nothing) s ≡ true
+
+-- a state that is not near is led into the sets in no open position that is not in them
+abbrev pub Quiet : Arena → List StateSet → ℕ → StateSet → Type 0
+Quiet a sets p near = (s : ℕ) → member near s ≡ false → member (slice_index_or sets p nothing) s ≡ false → Open a s p → (x : ℕ) → Leading a sets s p x → ⊥

@@ -2,6 +2,7 @@ mod ask;
 mod take;
 
 ghost use Rattle.std.specs.Prelude.{◌≡◌, vec_len};
+ghost use Rattle.checking.specs.Sources.{Sourced};
 
 use crate::state_set::StateSet;
 use reading::machine_sheet::Frame;
@@ -15,7 +16,11 @@ pub(crate) struct Snapshot {
     frame: Frame,
     // one piece for the largest game, so that solving takes no memory
     rows: Vec<[[StateSet; 4]; 4]>,
+    // for each state the states with a move to it, whichever signals are shown
+    sources: Vec<StateSet>,
     forbidden: StateSet,
     goals: StateSet,
     ghost rows_long: { vec_len rows ≡ 256 },
+    ghost sources_long: { vec_len sources ≡ 256 },
+    ghost sourced: { Sourced frame.states rows.items sources.items },
 }

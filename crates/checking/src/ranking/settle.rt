@@ -86,11 +86,12 @@ impl Ranking {
     pub(crate) fn settle(&mut self, seat: &Seat<'_, Snapshot>)
         ensures { Stable (played seat.now) (ranks_in (played seat.now) self.new) (choices_in (played seat.now) self.new) }
     {
+        let turns = seat.turns();
         self.begin(seat);
         // until a round gives nothing up
         loop {
             self.reset(seat);
-            self.attract(seat);
+            self.attract(seat, &turns);
             if !self.prune(seat) {
                 return;
             }

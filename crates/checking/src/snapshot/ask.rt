@@ -1,4 +1,4 @@
-ghost use Rattle.std.specs.Prelude.{◌≡◌, ℕ};
+ghost use Rattle.std.specs.Prelude.{◌≡◌, ℕ, true};
 ghost use Rattle.checking.specs.StateSets.{member};
 ghost use Rattle.checking.specs.Snapshots.{snap_move, snap_forbidden, snap_goal};
 
@@ -37,6 +37,13 @@ impl Snapshot {
         } else {
             StateSet::empty()
         }
+    }
+
+    /// The states with a move into a set, whichever signals are shown.
+    pub(crate) fn sources_of(&self, set: &StateSet) -> StateSet
+        ensures { (s x b t : ℕ) → snap_move self.now s x b t ≡ true → member set.now t ≡ true → member result s ≡ true }
+    {
+        set.union_at(&self.sources)
     }
 
     /// Whether a state is forbidden.

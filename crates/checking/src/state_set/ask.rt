@@ -1,10 +1,32 @@
-ghost use Rattle.std.specs.Prelude.{◌<◌, ◌≡◌, ℕ, ◌≤◌, true, false, ◌||◌, Decides, ◌==◌};
-ghost use Rattle.checking.specs.StateSets.{member, nothing};
+ghost use Rattle.std.specs.Prelude.{◌<◌, ◌≡◌, ℕ, ◌≤◌, true, false, not, ◌&&◌, ◌||◌, Decides, MatchOption, ◌==◌, slice_index_or};
+ghost use Rattle.reading.specs.Bytes.{bit};
+ghost use Rattle.checking.specs.StateSets.{member, nothing, FirstFrom};
 
 use crate::state_set::StateSet;
 
 /// How many states a word holds.
 const WORD: u16 = 128;
+
+/// The lowest bit of a word from a place on.
+fn lowest(word: u128, from: u16) -> Option<u16>
+    requires { from < 128 }
+    ensures { MatchOption result ((i : ℕ) → from ≤ i → bit word i ≡ false) (FirstFrom (bit word) from 128) }
+{
+    let rest = word >> from;
+    if rest == 0 {
+        return None;
+    }
+    Some(from + rest.trailing_zeros() as u16)
+}
+
+/// The set at a place, none past their end.
+fn set_at(sets: &[StateSet], place: u16) -> StateSet
+    ensures { result ≡ slice_index_or sets.now place nothing }
+{
+    sets.get(usize::from(place))
+        .copied()
+        .unwrap_or(StateSet::empty())
+}
 
 impl StateSet {
     /// No state at all.
@@ -68,5 +90,52 @@ impl StateSet {
         ensures { Decides result ((t : ℕ) → member self.now t ≡ true → member other.now t ≡ true) }
     {
         self.low & other.low == self.low && self.high & other.high == self.high
+    }
+    /// The lowest state of the set from a state on.
+    pub(crate) fn first_from(&self, from: u16) -> Option<u16>
+        ensures { MatchOption result ((t : ℕ) → from ≤ t → member self.now t ≡ false) (FirstFrom (member self.now) from 256) }
+    {
+        if from < WORD {
+            if let Some(place) = lowest(self.low, from) {
+                return Some(place);
+            }
+        }
+        let from = from.saturating_sub(WORD);
+        if from >= WORD {
+            return None;
+        }
+        Some(lowest(self.high, from)? + WORD)
+    }
+
+    /// The states of either set.
+    pub(crate) fn or(&self, other: &StateSet) -> StateSet
+        ensures { (t : ℕ) → member result t ≡ (member self.now t || member other.now t) }
+    {
+        StateSet {
+            low: self.low | other.low,
+            high: self.high | other.high,
+        }
+    }
+
+    /// The states of the set that are not in the other.
+    pub(crate) fn minus(&self, other: &StateSet) -> StateSet
+        ensures { (t : ℕ) → member result t ≡ (member self.now t && not (member other.now t)) }
+    {
+        StateSet {
+            low: self.low & !other.low,
+            high: self.high & !other.high,
+        }
+    }
+    /// The union of the sets whose places are in this one; a place past their end has none.
+    pub(crate) fn union_at(&self, sets: &[StateSet]) -> StateSet
+        ensures { (t s : ℕ) → member self.now t ≡ true → member (slice_index_or sets.now t nothing) s ≡ true → member result s ≡ true }
+    {
+        let mut all = StateSet::empty();
+        let mut from = 0;
+        while let Some(place) = self.first_from(from) {
+            all = all.or(&set_at(sets, place));
+            from = place + 1;
+        }
+        all
     }
 }

@@ -3,8 +3,5 @@ use Rattle.checking.specs.Snapshots.{played}
 use Rattle.checking.specs.Solving.{zeros, Layering}
 use Rattle.checking.proofs.ranking.Ranking.add_layer.Given as goal
 
-abbrev pub invariant-loop-state : goal.invariant-loop-state
-invariant-loop-state l = Layering (played l.seat) l.self l.next l.depth l.phase l.state × (zeros l.self ≡ zeros l.fn.self)
-
 abbrev pub invariant-loop-phase : goal.invariant-loop-phase
-invariant-loop-phase l = Layering (played l.seat) l.self l.next l.depth l.phase 0 × (zeros l.self ≡ zeros l.fn.self)
+invariant-loop-phase l = Layering (played l.seat) l.self l.next l.depth l.phase 0 × (l.self.ranked ≡ l.fn.self.ranked) × (zeros l.self ≡ zeros l.fn.self)

@@ -1,8 +1,14 @@
-use Rattle.std.proofs.Common.{◌≡◌, arith}
+use Rattle.std.proofs.Common.{◌≡◌, refl, arith}
 use Rattle.checking.specs.Snapshots.{played}
+use Rattle.checking.specs.Solving.{ranks_in}
+use Rattle.checking.proofs.PlayLaws.{bounded}
+use Rattle.checking.proofs.NearLaws.{tracks_none}
 use Rattle.checking.proofs.AttractorLaws.{layer_stops}
 use Rattle.checking.proofs.PassLaws.{tracks_top}
 use Rattle.checking.proofs.ranking.Ranking.attract.Goals as goal
+
+pub loop-depth-init : goal.loop-depth-init
+loop-depth-init c = (c.requires.before, tracks_none (played c.args.seat.now) (bounded c.args.seat.now) c.empty-earlier.result c.empty-earlier.ensures (ranks_in (played c.args.seat.now) c.args.self.now), refl)
 
 pub returns-then-not-add_layer-clause-after : goal.returns-then-not-add_layer-clause-after
 returns-then-not-add_layer-clause-after c =
