@@ -1,4 +1,4 @@
-// Runs solving and checking beside a second solver on pseudo-random games of every kind, and says where they differ.
+// Runs solving, checking and searching beside a second solver on pseudo-random games of every kind, and says where they differ.
 #![tactic(auto)]
 
 mod bays;
