@@ -19,3 +19,4 @@ pub mod CandidateLaws
 pub mod VerdictLaws
 pub mod SearchingLaws
 mod ReachExamples
+mod SearchExamples

@@ -1,2 +1,3 @@
 pub mod Showing
 pub mod SolvingShown
+pub mod SearchingShown

@@ -13,7 +13,7 @@ use Rattle.trials.specs.Toggles.{watched_toggle}
 use Rattle.trials.specs.Checks.{bay, bay_under, ranked}
 use Rattle.trials.specs.Solutions.{Solving}
 
-abbrev plan : Plan
+abbrev pub plan : Plan
 plan = plan_in (ranked 1 0 2 0)
 
 -- a move ends in one of the four states
@@ -37,7 +37,7 @@ fitted = record {
   moves = moves_low;
 }
 
-controls : Controller bay plan
+pub controls : Controller bay plan
 controls = controller_of bay plan fitted (λ s p k. omega (arith, bound_above (parts_in (ranked 1 0 2 0)) s p k)) refl
 
 -- each of the four states is kept, with choice 1

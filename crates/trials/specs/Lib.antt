@@ -2,3 +2,4 @@ pub mod Toggles
 pub mod Shown
 pub mod Checks
 pub mod Solutions
+pub mod Searches

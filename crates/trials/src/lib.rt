@@ -11,6 +11,8 @@ mod games_tests;
 #[cfg(test)]
 mod inspection_tests;
 #[cfg(test)]
+mod negotiation_tests;
+#[cfg(test)]
 mod planning_tests;
 #[cfg(test)]
 mod reading_tests;
@@ -18,6 +20,8 @@ mod reading_tests;
 mod review_tests;
 #[cfg(test)]
 mod samples;
+#[cfg(test)]
+mod searching_tests;
 pub mod shown;
 #[cfg(test)]
 mod solving_tests;

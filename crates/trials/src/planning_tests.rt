@@ -9,7 +9,7 @@ use std::test::Fail;
 const TABLE: [u8; 7] = [1, 2, 2, 0, 0, 0, 0];
 
 /// A bay of two watched toggles, with one byte changed.
-fn bay(heap: Global, place: usize, byte: u8) -> Result<Vec<u8>, Fail> {
+pub(crate) fn bay(heap: Global, place: usize, byte: u8) -> Result<Vec<u8>, Fail> {
     let mut bytes = Vec::new(heap);
     bytes.extend_from_slice(&[42, 0, 20, 0, 42, 0, 20, 0, 7, 0])?;
     for sheet in [TOGGLE.as_slice(), &RULE, &TOGGLE, &RULE, &TABLE] {

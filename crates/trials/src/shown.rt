@@ -1,6 +1,7 @@
 ghost use Rattle.trials.specs.Shown.{WatchedToggle, Signing};
 ghost use Rattle.trials.specs.Checks.{Checking};
 ghost use Rattle.trials.specs.Solutions.{Solving};
+ghost use Rattle.trials.specs.Searches.{Searching};
 
 /// The toggle watched by its rule sheet, as the definitions have it.
 pub fn watched_toggle()
@@ -20,4 +21,9 @@ pub fn checking()
 /// Solving the watched toggle under one signal and under both, as the definitions have it.
 pub fn solving()
     ensures { Solving }
+{}
+
+/// Searching for a deal of two watched toggles, as the definitions have it.
+pub fn searching()
+    ensures { Searching }
 {}
