@@ -1,9 +1,10 @@
-// Runs solving and checking beside a second solver on pseudo-random games of every kind, and says where they differ.
+// Runs solving, checking and searching beside a second solver on pseudo-random games of every kind, and says where they differ.
 #![tactic(auto)]
 
 mod bays;
 mod contest;
 mod damage;
+mod deals;
 mod draws;
 mod kinds;
 mod made;
@@ -22,7 +23,7 @@ use rival::random::Random;
 const GAMES: u64 = 1200;
 
 /// How many pairs of games of each kind meet.
-const MEETINGS: u64 = 300;
+const MEETINGS: u64 = 800;
 
 fn main(rt: HostRuntime) -> anyhow::Result<()> {
     let heap = rt.alloc();
@@ -46,10 +47,8 @@ fn main(rt: HostRuntime) -> anyhow::Result<()> {
             pair.play(heap, &mut meeting, &mut Random::new(seed))
                 .context(format_args!("{pair}, seed {seed}"))?;
         }
-        println!(rt;
-            "search, {pair}: {}, at most {} tries",
-            &meeting.searched, meeting.longest
-        )?;
+        println!(rt; "search, {pair}: {}", &meeting.searched)?;
+        println!(rt; "deals, {pair}: {}", &meeting.deals)?;
     }
     Ok(())
 }

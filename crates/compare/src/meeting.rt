@@ -1,3 +1,4 @@
+use crate::deals::Deals;
 use crate::draws;
 use crate::tally::Tally;
 use anyhow::{Result, ensure};
@@ -17,8 +18,7 @@ pub struct Meeting {
     heap: Global,
     workspace: SearchWorkspace,
     pub searched: Tally,
-    /// The most tries that an answer took.
-    pub longest: u16,
+    pub deals: Deals,
 }
 
 /// Two games under a phase table, as the first search has them, and as the second does.
@@ -31,7 +31,7 @@ struct Meets<'a, G: Game, H: Game> {
 }
 
 /// So many candidates are all tried by the second search, too.
-const FEW: u16 = 300;
+const FEW: u16 = 729;
 
 /// A deal in the second search's words; a reliance is the other side's promise.
 fn told(agreement: &Agreement) -> Found {
@@ -80,16 +80,16 @@ impl Meeting {
             heap,
             workspace: SearchWorkspace::new(heap)?,
             searched: Tally::new("found a deal"),
-            longest: 0,
+            deals: Deals::new(),
         })
     }
 
     pub fn clear(&mut self) {
         self.searched = Tally::new("found a deal");
-        self.longest = 0;
+        self.deals = Deals::new();
     }
 
-    /// Draws a table and an allowance, and compares what is found; where a deal is found, with that many tries and with one less.
+    /// Draws a table and an allowance, and compares what is found.
     pub fn play<G: Game, H: Game>(
         &mut self,
         random: &mut Random,
@@ -116,19 +116,39 @@ impl Meeting {
             facing,
         };
         let allowance = allowance(random, facing.candidates());
-        if let Some(tries) = self.search(&meets, allowance)? {
-            self.search(&meets, tries)?;
-            self.search(&meets, tries.saturating_sub(1))?;
+        self.search_about(&meets, allowance)
+    }
+
+    /// Compares what is found; where a deal is found, or there is none at all, with just as many tries as that takes, too, with one
+    /// less and with one more.
+    fn search_about<G: Game, H: Game>(
+        &mut self,
+        meets: &Meets<'_, G, H>,
+        allowance: u32,
+    ) -> Result<()> {
+        let tries = match self.search(meets, allowance)? {
+            Ok(found) => {
+                self.deals.add(&found);
+                found.tries
+            }
+            Err(unfound) => match unfound.tries {
+                Some(tries) if unfound.number == 27 => tries,
+                _ => return Ok(()),
+            },
+        };
+        let tries = u32::from(tries);
+        for nearby in tries.saturating_sub(1)..=tries.saturating_add(1) {
+            let _ = self.search(meets, nearby)?;
         }
         Ok(())
     }
 
-    /// Compares the deal and its tries, or the refusal and its tries. The tries come back if a deal was found.
+    /// Compares the deal and its tries, or the refusal and its tries.
     fn search<G: Game, H: Game>(
         &mut self,
         meets: &Meets<'_, G, H>,
         allowance: u32,
-    ) -> Result<Option<u32>> {
+    ) -> Result<Result<Found, Unfound>> {
         let second = candidates::search(self.heap, &meets.facing, allowance)?;
         let first = search(
             &mut self.workspace,
@@ -145,16 +165,11 @@ impl Meeting {
             first == second,
             "searching differs at allowance {allowance}"
         );
-        match first {
-            Ok(found) => {
-                self.longest = self.longest.max(found.tries);
-                self.searched.add(Ok(found.tries));
-                Ok(Some(found.tries.into()))
-            }
-            Err(unfound) => {
-                self.searched.add(Err(unfound.number));
-                Ok(None)
-            }
-        }
+        self.searched.add(
+            first
+                .map(|found| found.tries)
+                .map_err(|unfound| unfound.number),
+        );
+        Ok(first)
     }
 }

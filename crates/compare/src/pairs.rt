@@ -25,23 +25,42 @@ struct Sizes {
     table: [u8; 3],
 }
 
-/// Sizes of a phase table with at most 243 pairs of promises, seldom any.
+/// Sizes of a phase table with at most 729 candidates, seldom any.
 fn few_candidates(random: &mut Random) -> [u8; 3] {
     let (many, some, few) = (
         1 + random.byte_up_to(7),
         1 + random.byte_up_to(4),
         1 + random.byte_up_to(1),
     );
-    match random.up_to(10) {
+    match random.up_to(12) {
         0 => [many, 1, 1],
         1 => [some, 2, 1],
         2 => [some, 1, 2],
         3..=5 => [few, 2, 2],
-        6 => [1, 3, 2],
-        7 => [1, 2, 3],
+        6 => [few, 3, 2],
+        7 => [few, 2, 3],
         8 => [1, 3, 3],
         9 => [1, 4, 4],
+        10..=11 => [3, 2, 2],
         _ => draws::sizes(random),
+    }
+}
+
+/// How many signals one machine has each way, seldom other than the table has.
+fn slipped(random: &mut Random, signals: u8) -> u8 {
+    if random.once_in(100) {
+        2 + random.byte_up_to(2)
+    } else {
+        signals
+    }
+}
+
+/// How large a machine is for these signals.
+fn size(random: &mut Random, own: u8, partner: u8) -> Size {
+    Size {
+        states: 1 + random.up_to(5),
+        own: slipped(random, own),
+        partner: slipped(random, partner),
     }
 }
 
@@ -59,26 +78,19 @@ impl Pair {
     fn sizes(self, random: &mut Random) -> Sizes {
         let [phases, first, second] = few_candidates(random);
         let some = 2 + random.byte_up_to(2);
+        let or_two = if random.once_in(8) { 2 } else { 1 };
         let table = match self {
             Pair::MarkedSheets | Pair::WatchedSheets | Pair::WatchedAndMarkedSheets => {
                 [phases, first, second]
             }
-            Pair::LiftAndSheet => [1, 4, some],
-            Pair::SheetAndLift => [1, some, 4],
-            Pair::Lifts => [1, 4, 4],
+            Pair::LiftAndSheet => [or_two, 4, some],
+            Pair::SheetAndLift => [or_two, some, 4],
+            Pair::Lifts => [or_two, 4, 4],
         };
         let [_, own, partner] = table;
         Sizes {
-            first: Size {
-                states: 1 + random.up_to(5),
-                own,
-                partner,
-            },
-            second: Size {
-                states: 1 + random.up_to(5),
-                own: partner,
-                partner: own,
-            },
+            first: size(random, own, partner),
+            second: size(random, partner, own),
             table,
         }
     }
