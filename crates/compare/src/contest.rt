@@ -96,14 +96,9 @@ impl Contest {
         let mut buffer = room(self.heap, random, table.seat)?;
         let before = buffer.clone()?;
         let second = lifting::solve(self.heap, table.seat, buffer.len())?;
-        let first = solve(
-            &mut self.workspace,
-            table.game,
-            &bay.table,
-            &bay.deal,
-            bay.side,
-            buffer.as_mut_slice(),
-        );
+        let record = buffer.as_mut_slice();
+        let room = &mut self.workspace;
+        let first = solve(room, table.game, &bay.table, &bay.deal, bay.side, record);
         match (first, second) {
             (Ok(bound), Ok(solved)) => {
                 ensure!(bound == solved.bound, "solving differs in the bound");

@@ -55,19 +55,23 @@ impl Damage {
                 }
             }
             Damage::Signals => set(record, 3, 1 + random.byte_up_to(3)),
-            Damage::Length => {
-                if random.once_in(2) {
-                    let _ = record.pop();
-                } else {
-                    record.push(random.byte_up_to(255))?;
-                }
-                if random.once_in(4) {
-                    record.truncate(usize::from(random.up_to(4)));
-                }
-            }
+            Damage::Length => resize(random, record)?,
         }
         Ok(())
     }
+}
+
+/// A byte less or more, and sometimes hardly a head.
+fn resize(random: &mut Random, record: &mut Vec<u8>) -> Result<(), AllocError> {
+    if random.once_in(2) {
+        let _ = record.pop();
+    } else {
+        record.push(random.byte_up_to(255))?;
+    }
+    if random.once_in(4) {
+        record.truncate(usize::from(random.up_to(4)));
+    }
+    Ok(())
 }
 
 fn set(record: &mut Vec<u8>, place: usize, to: u8) {

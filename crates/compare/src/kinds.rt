@@ -1,5 +1,5 @@
 use crate::contest::Contest;
-use crate::draws;
+use crate::draws::{self, Size};
 use crate::made::{lift, marked, sheet, watched};
 use anyhow::Result;
 use rival::random::Random;
@@ -7,7 +7,7 @@ use std::alloc::Global;
 use std::fmt;
 
 /// What a game is made of.
-#[derive(Clone, Copy)]
+#[derive(Clone, Copy, PartialEq, Eq)]
 pub enum Kind {
     MarkedSheet,
     WatchedSheet,
@@ -54,24 +54,35 @@ impl Kind {
                 let game = watched(heap, random, machine)?;
                 contest.play(random, &game)
             }
-            Kind::MarkedWatchedSheet => {
-                let machine = sheet(heap, random, size)?;
-                let below = watched(heap, random, machine)?;
-                let game = marked(heap, random, below)?;
-                contest.play(random, &game)
+            Kind::MarkedWatchedSheet | Kind::WatchedMarkedLift | Kind::WatchedWatchedSheet => {
+                self.play_twice(heap, contest, random, size, (floors, signals))
             }
-            Kind::WatchedMarkedLift => {
-                let machine = lift(heap, floors, signals)?;
-                let below = marked(heap, random, machine)?;
-                let game = watched(heap, random, below)?;
-                contest.play(random, &game)
-            }
-            Kind::WatchedWatchedSheet => {
-                let machine = sheet(heap, random, size)?;
-                let below = watched(heap, random, machine)?;
-                let game = watched(heap, random, below)?;
-                contest.play(random, &game)
-            }
+        }
+    }
+
+    /// Two layers, one on the other.
+    fn play_twice(
+        self,
+        heap: Global,
+        contest: &mut Contest,
+        random: &mut Random,
+        size: Size,
+        (floors, signals): (u8, u8),
+    ) -> Result<()> {
+        if self == Kind::WatchedMarkedLift {
+            let machine = lift(heap, floors, signals)?;
+            let below = marked(heap, random, machine)?;
+            let game = watched(heap, random, below)?;
+            return contest.play(random, &game);
+        }
+        let machine = sheet(heap, random, size)?;
+        let below = watched(heap, random, machine)?;
+        if self == Kind::MarkedWatchedSheet {
+            let game = marked(heap, random, below)?;
+            contest.play(random, &game)
+        } else {
+            let game = watched(heap, random, below)?;
+            contest.play(random, &game)
         }
     }
 }

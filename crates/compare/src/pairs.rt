@@ -7,7 +7,7 @@ use std::alloc::Global;
 use std::fmt;
 
 /// Which games meet.
-#[derive(Clone, Copy)]
+#[derive(Clone, Copy, PartialEq, Eq)]
 pub enum Pair {
     MarkedSheets,
     WatchedSheets,
@@ -98,58 +98,66 @@ impl Pair {
     /// Makes two games, and lets them meet.
     pub fn play(self, heap: Global, meeting: &mut Meeting, random: &mut Random) -> Result<()> {
         let sizes = self.sizes(random);
-        let Sizes {
-            first,
-            second,
-            table,
-        } = sizes;
         let floors = 2 + random.byte_up_to(4);
         match self {
-            Pair::MarkedSheets => {
-                let (first, second) = (sheet(heap, random, first)?, sheet(heap, random, second)?);
-                let first = marked(heap, random, first)?;
-                let second = marked(heap, random, second)?;
-                meeting.play(random, table, &first, &second)
+            Pair::MarkedSheets | Pair::WatchedSheets | Pair::WatchedAndMarkedSheets => {
+                self.play_sheets(heap, meeting, random, &sizes)
             }
-            Pair::WatchedSheets => {
-                let (first, second) = (sheet(heap, random, first)?, sheet(heap, random, second)?);
-                let first = watched(heap, random, first)?;
-                let second = watched(heap, random, second)?;
-                meeting.play(random, table, &first, &second)
+            Pair::LiftAndSheet | Pair::SheetAndLift | Pair::Lifts => {
+                self.play_lifts(heap, meeting, random, &sizes, floors)
             }
-            Pair::WatchedAndMarkedSheets => {
-                let (first, second) = (sheet(heap, random, first)?, sheet(heap, random, second)?);
-                let first = watched(heap, random, first)?;
-                let second = marked(heap, random, second)?;
-                meeting.play(random, table, &first, &second)
-            }
-            Pair::LiftAndSheet => {
-                let (first, second) = (
-                    lift(heap, floors, first.partner)?,
-                    sheet(heap, random, second)?,
-                );
-                let first = watched(heap, random, first)?;
-                let second = marked(heap, random, second)?;
-                meeting.play(random, table, &first, &second)
-            }
-            Pair::SheetAndLift => {
-                let (first, second) = (
-                    sheet(heap, random, first)?,
-                    lift(heap, floors, second.partner)?,
-                );
-                let first = watched(heap, random, first)?;
-                let second = marked(heap, random, second)?;
-                meeting.play(random, table, &first, &second)
-            }
-            Pair::Lifts => {
-                let (first, second) = (
-                    lift(heap, floors, first.partner)?,
-                    lift(heap, floors, second.partner)?,
-                );
-                let first = marked(heap, random, first)?;
-                let second = watched(heap, random, second)?;
-                meeting.play(random, table, &first, &second)
-            }
+        }
+    }
+
+    /// Both sides' machines are sheets.
+    fn play_sheets(
+        self,
+        heap: Global,
+        meeting: &mut Meeting,
+        random: &mut Random,
+        sizes: &Sizes,
+    ) -> Result<()> {
+        let first = sheet(heap, random, sizes.first)?;
+        let second = sheet(heap, random, sizes.second)?;
+        if self == Pair::MarkedSheets {
+            let first = marked(heap, random, first)?;
+            let second = marked(heap, random, second)?;
+            return meeting.play(random, sizes.table, &first, &second);
+        }
+        let first = watched(heap, random, first)?;
+        if self == Pair::WatchedSheets {
+            let second = watched(heap, random, second)?;
+            meeting.play(random, sizes.table, &first, &second)
+        } else {
+            let second = marked(heap, random, second)?;
+            meeting.play(random, sizes.table, &first, &second)
+        }
+    }
+
+    /// One side's machine is a lift, or both sides' are.
+    fn play_lifts(
+        self,
+        heap: Global,
+        meeting: &mut Meeting,
+        random: &mut Random,
+        sizes: &Sizes,
+        floors: u8,
+    ) -> Result<()> {
+        if self == Pair::Lifts {
+            let first = marked(heap, random, lift(heap, floors, sizes.first.partner)?)?;
+            let second = watched(heap, random, lift(heap, floors, sizes.second.partner)?)?;
+            return meeting.play(random, sizes.table, &first, &second);
+        }
+        if self == Pair::LiftAndSheet {
+            let second = sheet(heap, random, sizes.second)?;
+            let first = watched(heap, random, lift(heap, floors, sizes.first.partner)?)?;
+            let second = marked(heap, random, second)?;
+            meeting.play(random, sizes.table, &first, &second)
+        } else {
+            let first = sheet(heap, random, sizes.first)?;
+            let first = watched(heap, random, first)?;
+            let second = marked(heap, random, lift(heap, floors, sizes.second.partner)?)?;
+            meeting.play(random, sizes.table, &first, &second)
         }
     }
 }
