@@ -29,9 +29,9 @@ fn main() -> ExitCode {
     match word.as_str() {
         "bay" => whole::program(),
         "solver" => both(rows(""), compare_answers()),
-        "whole" => both(whole::rows(""), whole::compare()),
+        "whole" => both(whole::rows("whole"), whole::compare()),
         "compare" => both(compare_answers(), whole::compare()),
-        "" => [compare_answers(), whole::rows(""), whole::compare()]
+        "" => [compare_answers(), whole::rows("whole"), whole::compare()]
             .into_iter()
             .fold(rows(""), both),
         word => both(rows(word), whole::rows(word)),

@@ -9,6 +9,7 @@ mod program;
 mod random;
 mod search;
 mod table;
+mod worst;
 
 use std::process::ExitCode;
 
@@ -26,11 +27,11 @@ pub fn program() -> ExitCode {
 /// Times the cases whose names have a word. Fails where the programs print different lines.
 pub fn rows(word: &str) -> ExitCode {
     let programs = process::both();
-    let cases: Vec<_> = cases::all();
-    let cases = cases.iter().filter(|case| case.0.contains(word));
+    let cases = cases::all().into_iter().chain(worst::all());
+    let cases = cases.filter(|case| case.0.contains(word));
     table::heading();
     let equal: Vec<bool> = cases
-        .map(|(name, input)| table::row(&programs, name, input))
+        .map(|(name, input)| table::row(&programs, name, &input))
         .collect();
     ExitCode::from(u8::from(equal.contains(&false)))
 }

@@ -5,10 +5,9 @@ use crate::whole::process::{Program, Ran};
 use crate::whole::program;
 use std::time::Duration;
 
-/// How often each program is run, and how often where that takes long.
+/// How often each program is run, as long as all of its runs take no longer than this.
 const RUNS: usize = 15;
-const LONG: Duration = Duration::from_millis(500);
-const LONG_RUNS: usize = 3;
+const LONG: Duration = Duration::from_secs(3);
 
 pub fn heading() {
     println!("Times of the whole program are in milliseconds, of user and system together.\n");
@@ -47,8 +46,8 @@ fn candidates(table: &[u8]) -> u64 {
 fn least(programs: &[Program; 2], bytes: &[u8]) -> [Ran; 2] {
     let run = || [0, 1].map(|it: usize| programs[it].run(bytes));
     let mut best = run();
-    for turn in 1..RUNS {
-        if turn >= LONG_RUNS && best.iter().any(|it| it.took >= LONG) {
+    for turn in 1..RUNS as u32 {
+        if best.iter().any(|it| turn * it.took >= LONG) {
             break;
         }
         for (best, ran) in best.iter_mut().zip(run()) {
