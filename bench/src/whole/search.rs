@@ -1,5 +1,6 @@
 //! The search for the first deal under which both sides have controllers, pruned as the Rattle search is: a verdict at a candidate is
-//! noted at all that it decides, and before a candidate each side is tried with all its signals to promise.
+//! noted at all that it decides, before a candidate each side is tried with all its signals to promise, and who fails there is tried with
+//! more and more of them.
 
 use crate::arena::{Arena, Seat};
 use crate::bay::Terms;
@@ -61,7 +62,33 @@ impl<'a> Search<'a> {
         if self.wins(0, last_row * columns + column) {
             self.wins(1, row * columns + columns - 1);
         }
-        self.wins(0, place) && self.wins(1, place)
+        [0, 1].into_iter().all(|side| {
+            let won = self.wins(side, place);
+            if !won {
+                self.widen(side, place);
+            }
+            won
+        })
+    }
+
+    /// Tries a side that fails at a place with all its signals in the first phase, then in two phases, and so on, until it does not fail.
+    fn widen(&mut self, side: usize, place: usize) {
+        let sets = (1 << self.table[1 + side]) - 1;
+        let columns = self.promises[1].len();
+        let (row, column) = (place / columns, place % columns);
+        let mut block = 1;
+        for _ in 0..self.table[0] {
+            block *= sets;
+            let last = |place: usize| place / block * block + block - 1;
+            let wide = if side == 0 {
+                last(row) * columns + column
+            } else {
+                row * columns + last(column)
+            };
+            if self.wins(side, wide) {
+                return;
+            }
+        }
     }
 
     fn fails(&self, side: usize, place: usize) -> bool {
