@@ -69,20 +69,8 @@ impl Seeker {
             return false;
         }
         self.probe(candidates, place);
-        let Seeker {
-            first,
-            second,
-            ranking,
-        } = self;
-        if !first.wins(ranking, candidates, 0, place) {
-            first.widen(ranking, candidates, 0, place);
-            return false;
-        }
-        if !second.wins(ranking, candidates, 1, place) {
-            second.widen(ranking, candidates, 1, place);
-            return false;
-        }
-        true
+        self.first.tries(&mut self.ranking, candidates, 0, place)
+            && self.second.tries(&mut self.ranking, candidates, 1, place)
     }
 
     /// The place of the first workable candidate, of so many.

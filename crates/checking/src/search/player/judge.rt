@@ -76,13 +76,7 @@ impl Player {
 
     /// Tries a side that fails at a place with all its signals in the first phase, then in two phases, and so on, until it does not fail:
     /// what it fails with decides the places on the way there.
-    pub(crate) fn widen(
-        &mut self,
-        ranking: &mut Ranking,
-        candidates: &Candidates<'_>,
-        side: u8,
-        place: usize,
-    )
+    fn widen(&mut self, ranking: &mut Ranking, candidates: &Candidates<'_>, side: u8, place: usize)
         requires few { how_many candidates.now.table.now.sizes ≤ 65535 }
         requires place { place < how_many candidates.now.table.now.sizes }
         requires knows { Knows candidates.now.table.now side self.old }
@@ -100,5 +94,27 @@ impl Player {
                 return;
             }
         }
+    }
+
+    /// Whether there is a controller at a place. Where there is none, places with more to promise are tried too.
+    pub(crate) fn tries(
+        &mut self,
+        ranking: &mut Ranking,
+        candidates: &Candidates<'_>,
+        side: u8,
+        place: usize,
+    ) -> bool
+        requires few { how_many candidates.now.table.now.sizes ≤ 65535 }
+        requires place { place < how_many candidates.now.table.now.sizes }
+        requires knows { Knows candidates.now.table.now side self.old }
+        ensures knows { Knows candidates.now.table.now side self.new }
+        ensures same { self.new.snapshot ≡ self.old.snapshot }
+        ensures verdict { Verdict self.old.snapshot candidates.now.table.now side (candidate candidates.now.table.now.sizes place) (Some result) }
+    {
+        let won = self.wins(ranking, candidates, side, place);
+        if !won {
+            self.widen(ranking, candidates, side, place);
+        }
+        won
     }
 }
