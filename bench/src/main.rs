@@ -49,9 +49,12 @@ fn both(first: ExitCode, second: ExitCode) -> ExitCode {
 
 /// Times the solves whose names have a word.
 fn rows(word: &str) -> ExitCode {
-    heading();
-    let rows = bays().into_iter().filter(|row| row.0.contains(word));
-    rows.for_each(|(name, bay)| row(name, &bay));
+    let mut rows = bays();
+    rows.retain(|row| row.0.contains(word));
+    if !rows.is_empty() {
+        heading();
+    }
+    rows.iter().for_each(|(name, bay)| row(name, bay));
     ExitCode::SUCCESS
 }
 

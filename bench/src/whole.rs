@@ -28,10 +28,13 @@ pub fn program() -> ExitCode {
 pub fn rows(word: &str) -> ExitCode {
     let programs = process::both();
     let cases = cases::all().into_iter().chain(worst::all());
-    let cases = cases.filter(|case| case.0.contains(word));
-    table::heading();
+    let cases: Vec<_> = cases.filter(|case| case.0.contains(word)).collect();
+    if !cases.is_empty() {
+        table::heading();
+    }
     let equal: Vec<bool> = cases
-        .map(|(name, input)| table::row(&programs, name, &input))
+        .iter()
+        .map(|(name, input)| table::row(&programs, name, input))
         .collect();
     ExitCode::from(u8::from(equal.contains(&false)))
 }

@@ -1,10 +1,9 @@
-//! Bays that take long: side 0 has one signal, side 1 four, so that there are 15 candidates for each phase to the power of the phases; and
-//! beside what decides a verdict each machine has a chain of goals, of which a solve gives up one in each round.
+//! Bays that take long: beside what decides a verdict each machine has a chain of goals, of which a solve gives up one in each round.
 
 use crate::sheets::{round, rule_sheet, sheet};
 use crate::whole::input::Input;
 use std::collections::BTreeMap;
-use std::iter::{once, repeat_n};
+use std::iter::repeat_n;
 
 const STATES: usize = 256;
 const SIGNALS: usize = 4;
@@ -12,9 +11,27 @@ const SIGNALS: usize = 4;
 pub fn all() -> Vec<(&'static str, Input)> {
     vec![
         ("worst: chains, 3 phases", chains(3)),
-        ("worst: counts, 3 phases", counts(3, 6)),
+        (
+            "worst: differences, 3 phases, 1 by 4",
+            differences(3, 1, 4, -3),
+        ),
+        (
+            "worst: differences, 4 phases, 2 by 2",
+            differences(4, 2, 2, 0),
+        ),
         ("longest: chains, 4 phases", chains(4)),
-        ("longest: counts, 4 phases", counts(4, 8)),
+        (
+            "longest: differences, 4 phases, 1 by 4",
+            differences(4, 1, 4, -4),
+        ),
+        (
+            "longest: differences, 5 phases, 2 by 2",
+            differences(5, 2, 2, 0),
+        ),
+        (
+            "longest: differences, 2 phases, 4 by 4",
+            differences(2, 4, 4, 0),
+        ),
     ]
 }
 
@@ -56,16 +73,16 @@ fn pairs(own: usize, partner: usize) -> impl Iterator<Item = (usize, usize)> {
 }
 
 /// Every state is a goal, and a controller has only to go on.
-fn bay(machines: [Vec<u8>; 2], phases: usize) -> Input {
+fn bay(machines: [Vec<u8>; 2], table: Vec<u8>) -> Input {
     let rule = rule_sheet(1, 0, 0, &[0; 8]);
     Input {
         machines,
         rules: [rule.clone(), rule],
-        table: round(phases as u8, 1, SIGNALS as u8),
+        table,
     }
 }
 
-/// Side 0 always has a controller, and side 1 only where it promises all its signals: each candidate is solved for both.
+/// One signal of side 0, four of side 1. Side 0 always has a controller, and side 1 only where it promises all its signals: each candidate is solved for both.
 fn chains(phases: usize) -> Input {
     let mut first = Moves::new(1, SIGNALS);
     (0..SIGNALS).for_each(|partner| first.add(0, 0, partner, 0));
@@ -74,46 +91,47 @@ fn chains(phases: usize) -> Input {
     for step in 0..steps {
         second.add(step, step / phases, 0, (step + 1) % steps);
     }
-    bay([first.sheet(1), second.sheet(steps)], phases)
+    let table = round(phases as u8, 1, SIGNALS as u8);
+    bay([first.sheet(1), second.sheet(steps)], table)
 }
 
-/// Side 0 has a controller where side 1 promises at most so many signals in all, side 1 where it promises more: no verdict near the border
-/// decides another.
-fn counts(phases: usize, most: usize) -> Input {
-    let steps = phases * SIGNALS;
-    let (states, moves) = counter(phases, |_, count| count <= most);
-    let mut first = Moves::new(1, SIGNALS);
-    for (state, signal, next) in moves {
-        first.add(state, 0, signal, next);
-    }
-    let first = first.sheet(states);
-    let enough = |step: usize, count: usize| count + steps - step > most;
-    let (states, moves) = counter(phases, enough);
-    let mut second = Moves::new(SIGNALS, 1);
-    for (state, signal, next) in moves {
-        second.add(state, signal, 0, next);
-    }
-    bay([first, second.sheet(states)], phases)
-}
-
-/// Goes round the phases once for each signal, counts how often that was shown, and begins again. Moves are to lawful steps and counts only.
-fn counter(
-    phases: usize,
-    lawful: impl Fn(usize, usize) -> bool,
-) -> (usize, Vec<(usize, usize, usize)>) {
-    let steps = phases * SIGNALS;
-    let all = once((0, 0)).chain((1..steps).flat_map(|step| repeat_n(step, step + 1).zip(0..)));
-    let places = all.filter(|(step, count)| lawful(*step, *count));
-    let numbers: BTreeMap<_, _> = places.zip(0..).collect();
-    let mut moves = Vec::new();
-    for ((step, count), state) in &numbers {
-        for signal in 0..SIGNALS {
-            let (step, count) = (step + 1, count + usize::from(signal == step / phases));
-            if lawful(step, count) {
-                let next = if step < steps { (step, count) } else { (0, 0) };
-                moves.push((*state, signal, numbers[&next]));
+/// What a side has to do: in each round of the phases it may show a signal of its own number there and its partner may do the same, as many
+/// rounds as there are signals; shown more often than the partner by so many, it goes on, else it is stuck.
+fn difference(phases: usize, own: usize, partner: usize, least: i32) -> Vec<u8> {
+    let steps = phases * own.max(partner);
+    let mut moves = Moves::new(own, partner);
+    let mut numbers = BTreeMap::from([((0, 0), 0)]);
+    let mut open = vec![(0, 0)];
+    while let Some((step, count)) = open.pop() {
+        let round = step / phases;
+        for (a, b) in pairs(own, partner) {
+            let mut next = (
+                step + 1,
+                count + i32::from(a == round) - i32::from(b == round),
+            );
+            if next.0 == steps {
+                if next.1 < least {
+                    continue;
+                }
+                next = (0, 0);
             }
+            let fresh = numbers.len();
+            let number = *numbers.entry(next).or_insert_with(|| {
+                open.push(next);
+                fresh
+            });
+            moves.add(numbers[&(step, count)], a, b, number);
         }
     }
-    (numbers.len(), moves)
+    moves.sheet(numbers.len())
+}
+
+/// Side 0 has a controller where it promises more signals than side 1 by so many, side 1 where it does not: no verdict near the border
+/// decides another.
+fn differences(phases: usize, first: usize, second: usize, least: i32) -> Input {
+    let machines = [
+        difference(phases, first, second, least),
+        difference(phases, second, first, 1 - least),
+    ];
+    bay(machines, round(phases as u8, first as u8, second as u8))
 }
