@@ -95,12 +95,16 @@ pub struct Seat {
 impl Seat {
     /// A seat at a bay, unless its terms make no deal or there is no such side.
     pub fn read(bay: &Bay) -> Result<Seat, Refusal> {
-        let signals = (usize::from(bay.table[1]), usize::from(bay.table[2]));
-        let phases = usize::from(bay.table[0]);
-        agree(&bay.terms, phases, signals)?;
-        let (terms, signals) = match bay.side {
-            0 => (bay.terms[0], signals),
-            1 => (bay.terms[1], (signals.1, signals.0)),
+        Seat::new(&bay.table, &bay.terms, bay.side)
+    }
+
+    pub fn new(table: &[u8], deal: &[Terms; 2], side: u8) -> Result<Seat, Refusal> {
+        let signals = (usize::from(table[1]), usize::from(table[2]));
+        let phases = usize::from(table[0]);
+        agree(deal, phases, signals)?;
+        let (terms, signals) = match side {
+            0 => (deal[0], signals),
+            1 => (deal[1], (signals.1, signals.0)),
             _ => return Err(NO_SUCH_SIDE),
         };
         let mut seat = Seat {
@@ -111,20 +115,20 @@ impl Seat {
             follow: [[[0; 4]; 4]; 8],
             after: [0; 8],
         };
-        seat.fill(bay);
+        seat.fill(table, side);
         Ok(seat)
     }
 
-    fn fill(&mut self, bay: &Bay) {
+    fn fill(&mut self, table: &[u8], side: u8) {
         for phase in 0..self.phases {
             for own in 0..self.signals.0 {
                 for partner in 0..self.signals.1 {
-                    let place = if bay.side == 0 {
+                    let place = if side == 0 {
                         (phase * self.signals.0 + own) * self.signals.1 + partner
                     } else {
                         (phase * self.signals.1 + partner) * self.signals.0 + own
                     };
-                    self.follow[phase][own][partner] = bay.table[3 + place];
+                    self.follow[phase][own][partner] = table[3 + place];
                 }
             }
             for own in ones(self.promised[phase]) {

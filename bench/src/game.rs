@@ -63,6 +63,14 @@ impl Game {
         };
         Game { machine, layer }
     }
+
+    /// The machine of a sheet, watched by the automaton of a rule sheet.
+    pub fn watched(machine: &[u8], rule: &[u8]) -> Game {
+        Game {
+            machine: Machine::Sheet(Sheet::read(machine)),
+            layer: Layer::Rule(Rule::read(rule)),
+        }
+    }
 }
 
 fn pair(bytes: &[u8]) -> usize {

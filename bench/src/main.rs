@@ -14,6 +14,7 @@ mod random;
 mod rattle;
 mod sheets;
 mod solve;
+mod whole;
 
 use bay::Bay;
 use measure::{Measured, Times, measure};
@@ -25,12 +26,35 @@ const BAYS: usize = 10_000;
 fn main() -> ExitCode {
     // a word leaves only the rows whose names have it
     let word = std::env::args().nth(1).unwrap_or_default();
-    let rows = bays().into_iter().filter(|row| row.0.contains(&word));
-    heading();
-    rows.for_each(|(name, bay)| row(name, &bay));
-    if word.is_empty() || word == "compare" {
-        return compare_answers();
+    match word.as_str() {
+        "bay" => whole::program(),
+        "solver" => both(rows(""), compare_answers()),
+        "whole" => both(whole::rows("whole"), whole::compare()),
+        "compare" => both(compare_answers(), whole::compare()),
+        "" => [compare_answers(), whole::rows("whole"), whole::compare()]
+            .into_iter()
+            .fold(rows(""), both),
+        word => both(rows(word), whole::rows(word)),
     }
+}
+
+/// Fails where either does.
+fn both(first: ExitCode, second: ExitCode) -> ExitCode {
+    if first == ExitCode::SUCCESS {
+        second
+    } else {
+        first
+    }
+}
+
+/// Times the solves whose names have a word.
+fn rows(word: &str) -> ExitCode {
+    let mut rows = bays();
+    rows.retain(|row| row.0.contains(word));
+    if !rows.is_empty() {
+        heading();
+    }
+    rows.iter().for_each(|(name, bay)| row(name, bay));
     ExitCode::SUCCESS
 }
 

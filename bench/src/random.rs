@@ -94,11 +94,15 @@ fn machine(random: &mut Random) -> (Machine, usize, (usize, usize)) {
     };
     let states = 1 + random.below(most);
     let signals = (1 + random.below(4), 1 + random.below(4));
+    let bytes = machine_sheet(random, states, signals);
+    (Machine::Sheet(bytes), states, signals)
+}
+
+pub fn machine_sheet(random: &mut Random, states: usize, signals: (usize, usize)) -> Vec<u8> {
     let moves = moves(random, states, signals);
     let labels: Vec<u8> = (0..states).map(|_| random.below(8) as u8).collect();
     let start = random.below(states);
-    let bytes = sheet(signals, start, &labels, moves);
-    (Machine::Sheet(bytes), states, signals)
+    sheet(signals, start, &labels, moves)
 }
 
 /// Sparse or dense, with few or many keys that have no move at all.
@@ -131,6 +135,11 @@ fn layer(random: &mut Random, states: usize) -> Layer {
         let of = |kind: usize| (0..states).filter(|state| kinds[*state] == kind).collect();
         return Layer::Marks(marks(of(1), of(2)));
     }
+    Layer::Rule(rule(random, states))
+}
+
+/// A rule for a machine of so many states; sometimes a label is forbidden.
+pub fn rule(random: &mut Random, states: usize) -> Vec<u8> {
     let count = 1 + random.below(8.min(256 / states));
     let accepting = random.byte() & ((1u16 << count) - 1) as u8;
     let forbidden = if random.once_in(3) {
@@ -139,7 +148,7 @@ fn layer(random: &mut Random, states: usize) -> Layer {
         0
     };
     let next: Vec<u8> = (0..8 * count).map(|_| random.below(count) as u8).collect();
-    Layer::Rule(rule_sheet(accepting, forbidden, random.below(count), &next))
+    rule_sheet(accepting, forbidden, random.below(count), &next)
 }
 
 /// Mostly terms that agree: the promises, and reliances that hold at least the other's promise.

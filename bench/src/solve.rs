@@ -62,6 +62,13 @@ pub fn solve(
     })
 }
 
+/// Whether there is a ranked controller.
+pub fn controls(arena: &Arena, seat: &Seat) -> bool {
+    let mut solver = Solver::new(arena, seat, Method::Frontier);
+    solver.settle();
+    solver.ranked[0].contains(arena.start)
+}
+
 impl<'a> Solver<'a> {
     fn new(arena: &'a Arena, seat: &'a Seat, method: Method) -> Solver<'a> {
         let mut solver = Solver {

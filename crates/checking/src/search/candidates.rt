@@ -20,6 +20,18 @@ pub(crate) struct Candidates<'a> {
     ghost few1: { length second.now ≤ 65535 },
 }
 
+/// The last place in the block of a place, of so many places.
+fn last_in_block(place: usize, block: usize, count: usize) -> usize
+    requires block { 0 < block }
+    requires short { block ≤ 65535 }
+    requires place { place < count }
+    requires few { count ≤ 65535 }
+    ensures { result < count }
+{
+    let last = place / block * block + (block - 1);
+    last.min(count - 1)
+}
+
 impl Candidates<'_> {
     /// How many there are.
     pub(crate) fn count(&self) -> usize
@@ -71,6 +83,24 @@ impl Candidates<'_> {
             (self.first.len() - 1) * columns + place % columns
         } else {
             place / columns * columns + (columns - 1)
+        }
+    }
+
+    /// The place with the same promise of a side's partner, and for the side itself the last of its promises in a block: they stand in
+    /// blocks of so many.
+    pub(crate) fn fuller(&self, side: u8, place: usize, block: usize) -> usize
+        requires place { place < how_many self.now.table.now.sizes }
+        requires block { 0 < block }
+        requires short { block ≤ 65535 }
+        requires few { how_many self.now.table.now.sizes ≤ 65535 }
+        ensures { result < how_many self.now.table.now.sizes }
+    {
+        let columns = self.second.len();
+        let (row, column) = (place / columns, place % columns);
+        if side == 0 {
+            last_in_block(row, block, self.first.len()) * columns + column
+        } else {
+            row * columns + last_in_block(column, block, columns)
         }
     }
 }

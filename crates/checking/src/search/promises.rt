@@ -49,7 +49,7 @@ fn unit(phase: u8) -> u32
 }
 
 /// How many sets of signals there are but the empty one.
-fn sets(signals: u8) -> u32
+pub(crate) fn sets(signals: u8) -> u32
     requires { signals ≤ 4 }
     ensures { result ≡ 2 ^ signals - 1 }
 {

@@ -69,8 +69,8 @@ impl Seeker {
             return false;
         }
         self.probe(candidates, place);
-        self.first.wins(&mut self.ranking, candidates, 0, place)
-            && self.second.wins(&mut self.ranking, candidates, 1, place)
+        self.first.tries(&mut self.ranking, candidates, 0, place)
+            && self.second.tries(&mut self.ranking, candidates, 1, place)
     }
 
     /// The place of the first workable candidate, of so many.
