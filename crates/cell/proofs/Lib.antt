@@ -1,0 +1,7 @@
+pub mod PlaceLaws
+pub mod RunLaws
+pub mod AnswerLaws
+pub mod LogLaws
+pub mod CallLaws
+pub mod OfferLaws
+pub mod ReplayLaws

@@ -1,0 +1,4 @@
+pub mod Faults
+pub mod Logs
+pub mod Law
+pub mod Cells
