@@ -14,7 +14,7 @@ use Rattle.cell.specs.declared.cell.Cell.{Cell}
 use Rattle.cell.specs.declared.faults.CellFault.TheVariants.{Idle}
 use Rattle.cell.specs.Faults.{Refusal, numbers}
 use Rattle.cell.specs.Logs.{Games, Log, Event, Told, reported, offered, asked, to_report, Offering, first, run, answers, after, unless_err, report_fault, running_fault, moved, waited, signals, signals_in}
-use Rattle.cell.specs.Law.{Good, BothRun}
+use Rattle.cell.specs.Running.{Good, BothRun}
 use Rattle.cell.specs.Cells.{shown, copied, counted, Advanced, games, both_mean, offering, owned, event, Heard, Answered}
 use Rattle.cell.proofs.AnswerLaws.{answer_moved, answer_refused}
 use Rattle.cell.proofs.LogLaws.{good_moved}

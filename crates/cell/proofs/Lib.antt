@@ -4,4 +4,5 @@ pub mod AnswerLaws
 pub mod LogLaws
 pub mod CallLaws
 pub mod OfferLaws
+pub mod AcceptedLaws
 pub mod ReplayLaws

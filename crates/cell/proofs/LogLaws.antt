@@ -11,7 +11,8 @@ use Rattle.checking.specs.Arenas.{promised, relied}
 use Rattle.checking.specs.Controllers.{plan_in, Serves}
 use Rattle.cell.specs.declared.copies.Standing.{Standing}
 use Rattle.cell.specs.Logs.{Games, Log, Offering, own, partner, first, signals, signals_in, ranks_in, moved, taken, changes_fault, change_fault, report_fault}
-use Rattle.cell.specs.Law.{Guarantee, BothMove, Holds, Lawful, plays, Runs, RunsAt, BothRun, Rests, Good}
+use Rattle.cell.specs.Law.{Guarantee, BothMove, Holds, Lawful}
+use Rattle.cell.specs.Running.{plays, Runs, RunsAt, BothRun, Rests, Good}
 use Rattle.cell.specs.Cells.{Passed}
 use Rattle.cell.proofs.RunLaws.{serves, patient, moves as runs_on, takes, begins}
 use Rattle.cell.proofs.AnswerLaws.{changes, none_absent, moves_from_accepted, no_fault, answer_moved}

@@ -18,7 +18,7 @@ use Rattle.cell.specs.declared.copies.Mode.TheVariants as mode
 use Rattle.cell.specs.declared.cell.Cell.{Cell}
 use Rattle.cell.specs.Faults.{Refusal}
 use Rattle.cell.specs.Logs.{Games, Log, Offering, own, offered, to_offer, side_fault, record_fault, taken, changes_fault, offer_fault, answers_offer, unless_err, bounds_of, in_force, after}
-use Rattle.cell.specs.Law.{Good, BothRun}
+use Rattle.cell.specs.Running.{Good, BothRun}
 use Rattle.cell.specs.Cells.{shown, force_in, copied, games, refused, Taken, Heard, Passed}
 use Rattle.cell.proofs.AnswerLaws.{accepts, refuses}
 use Rattle.cell.proofs.LogLaws.{good_taken}

@@ -8,9 +8,11 @@ use Rattle.cell.specs.declared.cell.Cell.{Cell}
 use Rattle.cell.specs.declared.calls.Answer.{Answer}
 use Rattle.cell.specs.declared.calls.Call.{Call}
 use Rattle.cell.specs.Logs.{Games, Log, Event, Told, first, run, answers, after, all_answers}
-use Rattle.cell.specs.Law.{Good, Lawful}
+use Rattle.cell.specs.Law.{Lawful, Law}
+use Rattle.cell.specs.Running.{Good}
 use Rattle.cell.specs.Cells.{told, event, games, both_mean, Tells, Heard, Made, Replayed, Fills}
 use Rattle.cell.proofs.LogLaws.{lawful}
+use Rattle.cell.proofs.AcceptedLaws.{force_run, bounds_run}
 
 -- one more call at the end
 all_more : (g : Games) (es : List Event) (e : Event) (l : Log) → all_answers g (es ++ e ∷ []) l ≡ all_answers g es l ++ answers g (run g es l) e ∷ []
@@ -67,8 +69,12 @@ module _ {A B : Type 0} (m0 : A → Model) (k0 : A → Marks) (m1 : B → Model)
   same : (c : Cell A B) → c.first ≡ x → c.second ≡ y → games m0 k0 m1 k1 c ≡ g
   same c p q = ap (λ (a : A). both_mean m0 k0 m1 k1 a c.second) p ∙ ap (λ (b : B). both_mean m0 k0 m1 k1 x b) q
 
-  law_at : (events : List Event) (c : Cell A B) → c.first ≡ x → c.second ≡ y → Tells m0 k0 m1 k1 events c → Lawful g (run g events (first g))
-  law_at events c p q t = subst (λ (b : Games). Lawful b (run b events (first b))) (same c p q) (lawful (games m0 k0 m1 k1 c) _ (subst (Good (games m0 k0 m1 k1 c)) t.same t.good))
+  law_at : (events : List Event) (c : Cell A B) → c.first ≡ x → c.second ≡ y → Tells m0 k0 m1 k1 events c → Law g events
+  law_at events c p q t = record {
+    force = force_run g events (first g);
+    bounds = bounds_run g events (first g);
+    holds = subst (λ (b : Games). Lawful b (run b events (first b))) (same c p q) (lawful (games m0 k0 m1 k1 c) _ (subst (Good (games m0 k0 m1 k1 c)) t.same t.good));
+  }
 
   pub going_start : (c : Cell A B) → Made m0 k0 m1 k1 x y c → Going [] [] c
   unfolding all_answers
@@ -78,7 +84,7 @@ module _ {A B : Type 0} (m0 : A → Model) (k0 : A → Marks) (m1 : B → Model)
     tells = h.tells;
     replayed = record {
       answered = refl;
-      law = λ n. subst (λ (es : List Event). Lawful g (run g es (first g))) (sym (take_none n)) (law_at [] c h.first_game h.second_game h.tells);
+      law = λ n. subst (λ (es : List Event). Law g es) (sym (take_none n)) (law_at [] c h.first_game h.second_game h.tells);
     };
   }
 
@@ -97,8 +103,8 @@ module _ {A B : Type 0} (m0 : A → Model) (k0 : A → Marks) (m1 : B → Model)
           answered =
               ap (λ (g : List Told). g ++ a ∷ []) r.replayed.answered ∙ ap (λ z. all_answers g events (first g) ++ z ∷ []) last ∙ sym (all_more g events e (first g));
           law = λ n. elim (cases_lt (length events) n) [
-            | inl l ↦ subst (λ (es : List Event). Lawful g (run g es (first g))) (sym (take_past n (events ++ e ∷ []) (omega (arith, length-append events (e ∷ []))))) whole
-            | inr l ↦ subst (λ (es : List Event). Lawful g (run g es (first g))) (sym (take_within n events (e ∷ []) l)) (r.replayed.law n)
+            | inl l ↦ subst (λ (es : List Event). Law g es) (sym (take_past n (events ++ e ∷ []) (omega (arith, length-append events (e ∷ []))))) whole
+            | inr l ↦ subst (λ (es : List Event). Law g es) (sym (take_within n events (e ∷ []) l)) (r.replayed.law n)
           ];
         };
       }

@@ -6,7 +6,7 @@ use Rattle.checking.specs.Arenas.{Arena}
 use Rattle.checking.specs.Controllers.{Plan, Kept, Controller, Bound, Serves}
 use Rattle.checking.specs.Checks.{keeps}
 use Rattle.cell.specs.Logs.{waited}
-use Rattle.cell.specs.Law.{Runs}
+use Rattle.cell.specs.Running.{Runs}
 
 pub kept_from : (c : Plan) (s p : ℕ) → keeps c s p ≡ true → Kept c s p
 kept_from c s p h i = both_ways (c.choice s p == 255 && c.rank s p == 65535) (not-true _ h) (and_from _ _ (eq-eqb _ _ i.0) (eq-eqb _ _ i.1))

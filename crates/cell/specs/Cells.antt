@@ -22,7 +22,8 @@ use Rattle.cell.specs.declared.calls.Call.{Call}
 use Rattle.cell.specs.declared.calls.Call.TheVariants as call
 use Rattle.cell.specs.Faults.{Refusal, numbers}
 use Rattle.cell.specs.Logs.{Games, own, Log, Event, Told, asked, offered, reported, to_offer, to_report, states, phase, waits, signals_shown, ranks_shown, Offering, first, run, answers, all_answers, phase_after, taken}
-use Rattle.cell.specs.Law.{Good, Lawful}
+use Rattle.cell.specs.Law.{Law}
+use Rattle.cell.specs.Running.{Good}
 
 -- an answer as the log has it: each fault by its number, its values and its side
 abbrev pub told_result : Result (Sides ℕ) CellFault → Result (Sides ℕ) Refusal
@@ -112,7 +113,7 @@ module _ {A B : Type 0} (m0 : A → Model) (k0 : A → Marks) (m1 : B → Model)
 -- calls the law holds
 pub record Replayed (g : Games) (events : List Event) (given : List Told) : Type 0 where
   pub answered : given ≡ all_answers g events (first g)
-  pub law : (n : ℕ) → Lawful g (run g (take n events) (first g))
+  pub law : (n : ℕ) → Law g (take n events)
 
 -- what is replayed into a buffer: as many calls as it has room for, their answers at its front, and the rest of it unchanged
 pub record Fills (g : Games) (events : List Event) (old new : List Answer) (count : ℕ) : Type 0 where

@@ -1,13 +1,12 @@
--- What a running cell guarantees, and what every log keeps to show it.
-use Rattle.std.specs.Prelude.{◌≡◌, ℕ, ◌+◌, ◌≤◌, true, false, Some, None, Ok, Option, Result}
+-- What is promised of a cell over any run of calls.
+use Rattle.std.specs.Prelude.{◌≡◌, ℕ, ◌+◌, ◌≤◌, max, true, false, List, [], ◌∷◌, Some, None, Ok, Err, Option, Result}
 use Rattle.reading.specs.Sides.{pick}
 use Rattle.reading.specs.declared.sides.Sides.{Sides}
 use Rattle.games.specs.Machines.{forbidden_in}
-use Rattle.checking.specs.Arenas.{Arena, arena, promised, relied}
-use Rattle.checking.specs.Controllers.{Plan, plan_in, Kept, Controller}
-use Rattle.cell.specs.declared.copies.Standing.{Standing}
+use Rattle.checking.specs.Arenas.{promised, relied}
+use Rattle.checking.specs.Searching.{both}
 use Rattle.cell.specs.Faults.{Refusal}
-use Rattle.cell.specs.Logs.{Games, Log, Offering, own, signals, ranks, moves, answers_report}
+use Rattle.cell.specs.Logs.{Games, Log, Event, Told, offered, reported, asked, to_offer, to_report, states, phase, waits, signals_shown, ranks_shown, Offering, own, first, signals, ranks, moves, answers_report, run, all_answers}
 
 -- what is guaranteed of a side, under the offer in force
 pub record Guarantee (g : Games) (l : Log) (o : Offering) (side : ℕ) : Type 0 where
@@ -41,39 +40,46 @@ pub record Holds (g : Games) (l : Log) (o : Offering) : Type 0 where
 abbrev pub Lawful : Games → Log → Type 0
 Lawful g l = (o : Offering) → l.force ≡ Some o → Holds g l o
 
--- what a side plays under an offer
-abbrev pub plays : Games → Offering → ℕ → Arena
-plays g o side = arena (own side g.machines) (own side g.marks) o.table o.deal side
+-- what a call and its answer make of a value: another one if an offer was accepted
+abbrev pub if_accepted : {A : Type 0} → Told → A → A → A
+if_accepted (to_offer (Ok b)) x y = x
+if_accepted (to_offer (Err f)) x y = y
+if_accepted (to_report r) x y = y
+if_accepted (states s) x y = y
+if_accepted (phase p) x y = y
+if_accepted (waits w) x y = y
+if_accepted (signals_shown s) x y = y
+if_accepted (ranks_shown r) x y = y
 
--- a reader of the promises needs none of the rest: what every log keeps, from which the law follows
+abbrev pub accepted_by : Event → Told → Option Offering → Option Offering
+accepted_by (offered o) a before = if_accepted a (Some o) before
+accepted_by (reported to) a before = before
+accepted_by (asked q) a before = before
 
--- one side of a running log: arena, plan, state, phase, wait, largest bound
-pub record Runs (a : Arena) (c : Plan) (s p w m : ℕ) : Type 0 where
-  pub controller : Controller a c
-  pub largest : (t q : ℕ) → Kept c t q → c.rank t q ≤ m
-  pub here : Kept c s p
-  pub due : w + c.rank s p ≤ m + 1
-  pub fresh : a.goal s ≡ true → w ≡ 0
-  pub small : m ≤ 65534
+-- the last offer that was accepted, told from calls and answers alone
+unfoldable pub last_accepted : List Event → List Told → Option Offering → Option Offering
+last_accepted [] given before = before
+last_accepted (e ∷ es) [] before = before
+last_accepted (e ∷ es) (a ∷ given) before = last_accepted es given (accepted_by e a before)
 
-abbrev pub RunsAt : Games → Offering → Standing → ℕ → Type 0
-RunsAt g o a side = Runs (plays g o side) (plan_in (own side o.records)) (own side a.states) a.phase (own side a.waits) (own side a.bounds)
+-- for each side the largest bound that an accepted offer has answered, told from the answers alone
+abbrev pub raised : Told → Sides ℕ → Sides ℕ
+raised (to_offer (Ok b)) m = both (max m.first b.first) (max m.second b.second)
+raised (to_offer (Err f)) m = m
+raised (to_report r) m = m
+raised (states s) m = m
+raised (phase p) m = m
+raised (waits w) m = m
+raised (signals_shown s) m = m
+raised (ranks_shown r) m = m
 
-pub record BothRun (g : Games) (o : Offering) (a : Standing) : Type 0 where
-  pub first : RunsAt g o a 0
-  pub second : RunsAt g o a 1
-  pub same : o.table.sizes.phases ≡ o.deal.sizes.phases
+unfoldable pub largest_answered : List Told → Sides ℕ → Sides ℕ
+largest_answered [] m = m
+largest_answered (a ∷ given) m = largest_answered given (raised a m)
 
--- one side of an idle log
-pub record Rests (g : Games) (a : Standing) (side : ℕ) : Type 0 where
-  pub start : own side a.states ≡ (own side g.machines).start
-  pub fresh : own side a.waits ≡ 0
-  pub none : own side a.bounds ≡ 0
-
--- what every log keeps
-abbrev pub GoodIn : Games → Option Offering → Standing → Type 0
-GoodIn g None a = Rests g a 0 × Rests g a 1
-GoodIn g (Some o) a = BothRun g o a
-
-abbrev pub Good : Games → Log → Type 0
-Good g l = GoodIn g l.force l.at
+-- the law of the cell, after some calls: the offer in force is the last that was accepted, the largest bounds are those that accepted
+-- offers have answered, and from the first accepted offer on what is guaranteed holds
+pub record Law (g : Games) (events : List Event) : Type 0 where
+  pub force : (run g events (first g)).force ≡ last_accepted events (all_answers g events (first g)) None
+  pub bounds : (run g events (first g)).at.bounds ≡ largest_answered (all_answers g events (first g)) (both 0 0)
+  pub holds : Lawful g (run g events (first g))
