@@ -1,6 +1,6 @@
 -- What an answer tells of the refusals before it.
 use Rattle.std.proofs.Common.{◌≡◌, ℕ, ◌≤◌, true, not, ◌==◌, nat_le, Some, None, Ok, Err, Option, refl, ap, arith}
-use Rattle.std.proofs.lemmas.Bool.{leb-true, ltb-true, not_from_false, ne_eqb, and_parts}
+use Rattle.std.proofs.lemmas.Bool.{leb-true, le-leb, ltb-true, not_from_false, ne_eqb, and_parts}
 use Rattle.reading.specs.Firsts.{unless}
 use Rattle.reading.specs.Records.{parts_in, rank_at}
 use Rattle.reading.specs.declared.sides.Sides.{Sides}
@@ -11,9 +11,9 @@ use Rattle.cell.specs.declared.copies.Standing.{Standing}
 use Rattle.cell.specs.declared.faults.CellFault.TheVariants.{NotKept, RankRises}
 use Rattle.cell.specs.Faults.{Refusal, numbers}
 use Rattle.checking.specs.Checks.{keeps}
-use Rattle.cell.specs.Logs.{Games, Log, Offering, own, unless_refused, change_fault, report_fault, running_fault, choice_fault, move_fault, signals, moved, answers_report}
-use Rattle.cell.specs.Law.{BothMove, Accepted}
-use Rattle.cell.proofs.RunLaws.{kept_from}
+use Rattle.cell.specs.Logs.{Games, Log, Offering, own, unless_refused, change_fault, report_fault, running_fault, choice_fault, move_fault, signals, ranks, moved, answers_report}
+use Rattle.cell.specs.Law.{GoesOver, BothMove, Accepted}
+use Rattle.cell.proofs.RunLaws.{kept_from, kept_to}
 
 module _ {A : Type 0} where
   pub accepted : (o : Option Refusal) (x y : A) → unless_refused o x ≡ Ok y → (o ≡ None) × (x ≡ y)
@@ -37,6 +37,13 @@ changes a ranks o side e =
       kept_from (plan_in (own side o.records)) (own side a.states) 0 (none_unless is_kept (numbers (NotKept side)) (none_left kept fallen e)),
       leb-true _ _ (none_unless falls (numbers (RankRises side)) (none_right kept fallen e)),
     )
+
+pub goes_over : (l : Log) (o : Offering) (side : ℕ) → change_fault l.at (ranks l) o side ≡ None → GoesOver l o side
+goes_over l o side e = let h = changes l.at (ranks l) o side e in record { kept = h.0; falls = h.1 }
+
+pub no_change_fault : (l : Log) (o : Offering) (side : ℕ) → GoesOver l o side → change_fault l.at (ranks l) o side ≡ None
+no_change_fault l o side h =
+    of_none _ _ (unless_none _ (numbers (NotKept side)) (kept_to (plan_in (own side o.records)) (own side l.at.states) 0 h.kept)) (unless_none _ (numbers (RankRises side)) (le-leb _ _ h.falls))
 
 -- a promised signal is none of the absent ones
 pub none_absent : (w set p x : ℕ) → w ≤ 255 → has w set p x ≡ true → not (x == 255) ≡ true

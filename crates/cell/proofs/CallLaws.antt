@@ -15,7 +15,7 @@ use Rattle.cell.specs.declared.faults.CellFault.TheVariants.{Idle}
 use Rattle.cell.specs.Faults.{Refusal, numbers}
 use Rattle.cell.specs.Logs.{Games, Log, Event, Told, reported, offered, asked, to_report, Offering, first, run, answers, after, unless_err, report_fault, running_fault, moved, waited, signals, signals_in}
 use Rattle.cell.specs.Running.{Good, BothRun}
-use Rattle.cell.specs.Cells.{shown, copied, counted, Advanced, games, both_mean, offering, owned, event, Heard, Answered}
+use Rattle.cell.specs.Cells.{shown, seen, copied, counted, Advanced, games, both_mean, offering, owned, event, Heard, Answered}
 use Rattle.cell.proofs.AnswerLaws.{answer_moved, answer_refused}
 use Rattle.cell.proofs.LogLaws.{good_moved}
 
@@ -27,9 +27,6 @@ run_more g (x ∷ es) e l = run_more g es e (after g l x)
 module _ {A B : Type 0} (m0 : A → Model) (k0 : A → Marks) (m1 : B → Model) (k1 : B → Marks) where
   abbrev mean : Cell A B → Games
   mean c = games m0 k0 m1 k1 c
-
-  abbrev seen : Cell A B → Log
-  seen c = shown c.mode c.copies
 
   same_games : (x y : Cell A B) → y.first ≡ x.first → y.second ≡ x.second → mean x ≡ mean y
   same_games x y p q = ap (λ (a : A). both_mean m0 k0 m1 k1 a x.second) (sym p) ∙ ap (λ (b : B). both_mean m0 k0 m1 k1 y.first b) (sym q)

@@ -1,10 +1,10 @@
 -- What an offer does to the log that a cell shows.
-use Rattle.std.proofs.Common.{◌≡◌, ℕ, zero, suc, ◌≤◌, Bor, length, Some, None, Ok, Err, Option, Result, MatchResult, IfOk, is_ok, Decides, sym, refl, ap, subst, ◌∙◌, mul-le-mul, arith}
+use Rattle.std.proofs.Common.{◌≡◌, ℕ, zero, suc, ◌≤◌, Bor, length, Some, None, Ok, Err, Option, Result, MatchResult, IfOk, is_ok, is_some, true, false, Decides, sym, refl, ap, subst, ◌∙◌, mul-le-mul, arith}
 use Rattle.reading.specs.Records.{parts_in, bound_of}
 use Rattle.reading.specs.Sides.{pick}
 use Rattle.checking.specs.Searching.{both}
 use Rattle.reading.specs.declared.sides.Sides.{Sides}
-use Rattle.reading.proofs.FirstLaws.{of_left, of_right}
+use Rattle.reading.proofs.FirstLaws.{not_some, not_true, none_left, none_right, of_none, of_left, of_right}
 use Rattle.games.specs.Machines.{Model, Marks}
 use Rattle.checking.specs.declared.faults.CheckFault.{CheckFault}
 use Rattle.checking.specs.Controllers.{plan_in, Bound}
@@ -13,14 +13,16 @@ use Rattle.checking.specs.Checks.{answer, check_fault, check_answer, Ranked}
 use Rattle.cell.specs.declared.faults.CellFault.{CellFault}
 use Rattle.cell.specs.declared.faults.CellFault.TheVariants.{Checking}
 use Rattle.cell.specs.declared.copies.Copies.{Copies}
+use Rattle.cell.specs.declared.copies.Standing.{Standing}
 use Rattle.cell.specs.declared.copies.Mode.{Mode}
 use Rattle.cell.specs.declared.copies.Mode.TheVariants as mode
 use Rattle.cell.specs.declared.cell.Cell.{Cell}
 use Rattle.cell.specs.Faults.{Refusal}
-use Rattle.cell.specs.Logs.{Games, Log, Offering, own, offered, to_offer, side_fault, record_fault, taken, changes_fault, offer_fault, answers_offer, unless_err, bounds_of, in_force, after}
+use Rattle.cell.specs.Logs.{Games, Log, Offering, own, offered, to_offer, side_fault, record_fault, taken, changes_fault, change_fault, ranks_in, offer_fault, answers_offer, unless_err, bounds_of, in_force, after}
+use Rattle.cell.specs.Law.{Acceptable, GoesOver}
 use Rattle.cell.specs.Running.{Good, BothRun}
 use Rattle.cell.specs.Cells.{shown, force_in, copied, games, refused, Taken, Heard, Passed}
-use Rattle.cell.proofs.AnswerLaws.{accepts, refuses}
+use Rattle.cell.proofs.AnswerLaws.{accepts, refuses, goes_over, no_change_fault}
 use Rattle.cell.proofs.LogLaws.{good_taken}
 use Rattle.cell.proofs.CallLaws.{heard}
 
@@ -49,6 +51,11 @@ module _ (m : Model) (k : Marks) (o : Offering) (side : ℕ) where
       let q = answered (check_fault m k o.table o.deal side (own side o.records)) (bound_of (parts_in (own side o.records))) (Ok x) e in
       rw cases (record { ranked = ranked.0 refl; largest = bound; value = q.1 })
   side_passed (Err f) s cases e ranked bound = rw cases tt
+
+  pub side_ranked : (r : Result ℕ CheckFault) (s : Result ℕ CellFault) → MatchResult r (λ x. s ≡ Ok x) (λ f. s ≡ Err (Checking f side)) →
+      Decides (is_ok r) (Ranked m k o.table o.deal side (own side o.records)) → Decides (is_ok s) (Ranked m k o.table o.deal side (own side o.records))
+  side_ranked (Ok x) s cases ranked = rw cases ranked
+  side_ranked (Err f) s cases ranked = rw cases ranked
 
 -- a record that is one of a controller has room in the longest
 pub short_enough : (m : Model) (k : Marks) (o : Offering) (side b : ℕ) → Passed m k o side b → length (own side o.records) ≤ 6148
@@ -108,3 +115,26 @@ module _ {A B : Type 0} (m0 : A → Model) (k0 : A → Marks) (m1 : B → Model)
       taken_running b0 b1 p0 p1 y h on e =
           subst (λ (m : Mode). Hears (Ok (both b0 b1)) (record { mode = m; copies = y; first = x.first; second = x.second })) (sym on)
           (taken_over b0 b1 p0 p1 y h (subst (λ (m : Mode). changes_fault (force_in m x.copies) x.copies.standing o ≡ None) (sym on) e))
+
+-- a running cell accepts an offer exactly if it is acceptable
+module _ (g : Games) (a : Standing) (was o : Offering) where
+  abbrev running : Log
+  running = record { at = a; force = Some was }
+
+  not_acceptable : (f : Refusal) → changes_fault (Some was) a o ≡ Some f → Acceptable g running o → ⊥
+  not_acceptable f e p =
+      let w = p.go_over refl in
+      not_some (sym e ∙ of_none _ _ (no_change_fault running o 0 w.0) (no_change_fault running o 1 w.1))
+
+  go_over : changes_fault (Some was) a o ≡ None → GoesOver running o 0 × GoesOver running o 1
+  go_over e = (goes_over running o 0 (none_left _ _ e), goes_over running o 1 (none_right (change_fault a (ranks_in (Some was) a) o 0) _ e))
+
+module _ (g : Games) (x : Copies) (o : Offering) (m : Mode) (on : m ≡ mode.Running) where
+  pub refused_exactly : (f : Refusal) → changes_fault (Some (copied x)) x.standing o ≡ Some f → Decides false (Acceptable g (shown m x) o)
+  refused_exactly f e =
+      (λ z. absurd (not_true z), λ p. absurd (subst (λ (k : Mode). Acceptable g (shown k x) o → ⊥) (sym on) (not_acceptable g x.standing (copied x) o f e) p))
+
+  pub accepted_exactly : changes_fault (Some (copied x)) x.standing o ≡ None → Ranked g.machines.first g.marks.first o.table o.deal 0 o.records.first →
+      Ranked g.machines.second g.marks.second o.table o.deal 1 o.records.second → Decides true (Acceptable g (shown m x) o)
+  accepted_exactly e r0 r1 =
+      (λ z. record { first = r0; second = r1; go_over = λ s. subst (λ (k : Mode). GoesOver (shown k x) o 0 × GoesOver (shown k x) o 1) (sym on) (go_over g x.standing (copied x) o e) }, λ p. refl)

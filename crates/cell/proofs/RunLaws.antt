@@ -1,6 +1,6 @@
 -- One side of a running cell: what holds of its position, and that moves and new records keep it.
 use Rattle.std.proofs.Common.{◌≡◌, ℕ, ◌+◌, ◌<◌, ◌≤◌, max, Bool, true, false, ◌==◌, ◌&&◌, subst, sym, refl, inl, inr, arith}
-use Rattle.std.proofs.lemmas.Bool.{both_ways, not-true, eq-eqb, and_from, cases_lt}
+use Rattle.std.proofs.lemmas.Bool.{both_ways, not-true, eq-eqb, and_from, and_parts, eqb-true, not_from_false, cases_lt}
 use Rattle.reading.proofs.FirstLaws.{not_true}
 use Rattle.checking.specs.Arenas.{Arena}
 use Rattle.checking.specs.Controllers.{Plan, Kept, Controller, Bound, Serves}
@@ -10,6 +10,13 @@ use Rattle.cell.specs.Running.{Runs}
 
 pub kept_from : (c : Plan) (s p : ℕ) → keeps c s p ≡ true → Kept c s p
 kept_from c s p h i = both_ways (c.choice s p == 255 && c.rank s p == 65535) (not-true _ h) (and_from _ _ (eq-eqb _ _ i.0) (eq-eqb _ _ i.1))
+
+pub kept_to : (c : Plan) (s p : ℕ) → Kept c s p → keeps c s p ≡ true
+kept_to c s p k = not_from_false _ (none (c.choice s p == 255 && c.rank s p == 65535) (λ e. let h = and_parts _ _ e in k (eqb-true _ _ h.0, eqb-true _ _ h.1)))
+  where
+    none : (b : Bool) → (b ≡ true → ⊥) → b ≡ false
+    none true h = absurd (h refl)
+    none false h = refl
 
 still_due : (from to : Bool) (w r r' m : ℕ) → (from ≡ true → w ≡ 0) → (from ≡ false → r' < r) → r' ≤ m → w + r ≤ m + 1 → waited to w + r' ≤ m + 1
 still_due true true w r r' m fresh falls low due = omega arith

@@ -76,6 +76,9 @@ pub record Passed (m : Model) (k : Marks) (o : Offering) (side bound : ℕ) : Ty
   pub largest : Bound (plan_in (own side o.records)) bound
   pub value : bound ≡ bound_of (parts_in (own side o.records))
 
+abbrev pub seen : {A B : Type 0} → Cell A B → Log
+seen c = shown c.mode c.copies
+
 module _ {A B : Type 0} (m0 : A → Model) (k0 : A → Marks) (m1 : B → Model) (k1 : B → Marks) where
   -- what the games of a cell mean
   abbrev pub both_mean : A → B → Games

@@ -1,12 +1,27 @@
 -- What is promised of a cell over any run of calls.
-use Rattle.std.specs.Prelude.{◌≡◌, ℕ, ◌+◌, ◌≤◌, max, true, false, List, [], ◌∷◌, Some, None, Ok, Err, Option, Result}
+use Rattle.std.specs.Prelude.{◌≡◌, ℕ, ◌+◌, ◌≤◌, max, true, false, List, [], ◌∷◌, Some, None, Ok, Err, Option, Result, is_some}
 use Rattle.reading.specs.Sides.{pick}
 use Rattle.reading.specs.declared.sides.Sides.{Sides}
 use Rattle.games.specs.Machines.{forbidden_in}
 use Rattle.checking.specs.Arenas.{promised, relied}
+use Rattle.reading.specs.Records.{parts_in, rank_at}
+use Rattle.checking.specs.Controllers.{plan_in, Kept}
+use Rattle.checking.specs.Checks.{Ranked}
 use Rattle.checking.specs.Searching.{both}
 use Rattle.cell.specs.Faults.{Refusal}
 use Rattle.cell.specs.Logs.{Games, Log, Event, Told, offered, reported, asked, to_offer, to_report, states, phase, waits, signals_shown, ranks_shown, Offering, own, first, signals, ranks, moves, answers_report, run, all_answers}
+
+-- a side can go over to its new record: it keeps the present state in phase 0, at a rank that is not above the present one
+pub record GoesOver (l : Log) (o : Offering) (side : ℕ) : Type 0 where
+  pub kept : Kept (plan_in (own side o.records)) (own side l.at.states) 0
+  pub falls : rank_at (parts_in (own side o.records)) (own side l.at.states) 0 ≤ own side (ranks l)
+
+-- when an offer is accepted, in words: each record is a ranked controller for its side, and if there is an offer in force each side can
+-- go over to its new record
+pub record Acceptable (g : Games) (l : Log) (o : Offering) : Type 0 where
+  pub first : Ranked g.machines.first g.marks.first o.table o.deal 0 o.records.first
+  pub second : Ranked g.machines.second g.marks.second o.table o.deal 1 o.records.second
+  pub go_over : is_some l.force ≡ true → GoesOver l o 0 × GoesOver l o 1
 
 -- what is guaranteed of a side, under the offer in force
 pub record Guarantee (g : Games) (l : Log) (o : Offering) (side : ℕ) : Type 0 where

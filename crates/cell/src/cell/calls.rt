@@ -1,6 +1,8 @@
-ghost use Rattle.std.specs.Prelude.{◌≡◌, Some, IfOk, IfErr};
-ghost use Rattle.cell.specs.Logs.{reported, offered, to_report, to_offer, running_fault, side_fault};
-ghost use Rattle.cell.specs.Cells.{games, shown_running, refused, told_result, offering, Heard, Passed};
+ghost use Rattle.std.specs.Prelude.{◌≡◌, is_ok, IfOk, IfErr, Decides};
+ghost use Rattle.checking.specs.Checks.{Ranked};
+ghost use Rattle.cell.specs.Logs.{reported, offered, to_report, to_offer, own, running_fault, side_fault};
+ghost use Rattle.cell.specs.Law.{Acceptable};
+ghost use Rattle.cell.specs.Cells.{games, seen, shown_running, refused, told_result, offering, Heard, Passed};
 
 use crate::calls::{Offer, Report};
 use crate::cell::Cell;
@@ -15,6 +17,7 @@ use reading::sides::Sides;
 /// Checks a side's record of an offer: the bound of a ranked controller.
 fn check_record<G: Game>(game: &G, offer: Offer<'_>, side: u8) -> Result<u16, CellFault>
     ensures first { refused result ≡ side_fault (G.Machine.meaning game.now) (G.Game.marks game.now) (offering offer.entry) side }
+    ensures ranked { Decides (is_ok result) (Ranked (G.Machine.meaning game.now) (G.Game.marks game.now) offer.entry.table.now offer.entry.deal.now side (own side (offering offer.entry).records)) }
     ensures passed { IfOk result (Passed (G.Machine.meaning game.now) (G.Game.marks game.now) (offering offer.entry) side) }
 {
     let Offer {
@@ -33,6 +36,7 @@ impl<A: Game + Drop, B: Game + Drop> Cell<A, B> {
     /// go over to its new record. Answers both bounds.
     pub fn offer(&mut self, offer: Offer<'_>) -> Result<Sides<u16>, CellFault>
         ensures heard { Heard A.Machine.meaning A.Game.marks B.Machine.meaning B.Game.marks self.old (offered (offering offer.entry)) (to_offer (told_result result)) self.new }
+        ensures exactly { Decides (is_ok result) (Acceptable (games A.Machine.meaning A.Game.marks B.Machine.meaning B.Game.marks self.old) (seen self.old) (offering offer.entry)) }
         ensures unchanged { IfErr result (λ _. self.new ≡ self.old) }
     {
         let bounds = Sides {

@@ -4,7 +4,7 @@ use Rattle.checking.specs.Checks.{check_answer, Ranked}
 use Rattle.checking.specs.Controllers.{plan_in, Bound}
 use Rattle.cell.specs.declared.faults.CellFault.TheVariants.{Checking}
 use Rattle.cell.specs.Cells.{offering}
-use Rattle.cell.proofs.OfferLaws.{own_now, side_refused, side_passed}
+use Rattle.cell.proofs.OfferLaws.{own_now, side_refused, side_ranked, side_passed}
 use Rattle.cell.proofs.cell.calls.check_record.Goals as goal
 
 pub returns : goal.returns
@@ -17,6 +17,7 @@ returns g c =
     let checked = subst (λ (xs : List ℕ). told c.check.result ≡ check_answer m k o.table.now o.deal.now c.args.side xs) bytes c.check.ensures.first in
     record {
       first = side_refused m k (offering o) c.args.side c.check.result c.map_err.result cases checked;
+      ranked = side_ranked m k (offering o) c.args.side c.check.result c.map_err.result cases (subst (λ (xs : List ℕ). Decides (is_ok c.check.result) (Ranked m k o.table.now o.deal.now c.args.side xs)) bytes c.check.ensures.ranked);
       passed = side_passed m k (offering o) c.args.side c.check.result c.map_err.result cases checked
           (subst (λ (xs : List ℕ). Decides (is_ok c.check.result) (Ranked m k o.table.now o.deal.now c.args.side xs)) bytes c.check.ensures.ranked)
           (subst (λ (xs : List ℕ). IfOk c.check.result (Bound (plan_in xs))) bytes c.check.ensures.bound);
