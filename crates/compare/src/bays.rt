@@ -1,5 +1,5 @@
-use crate::draws;
 use anyhow::Result;
+use drawn::draws;
 use games::deal::signing::sign;
 use games::deal::{Deal, Terms};
 use reading::phase_table::PhaseTable;

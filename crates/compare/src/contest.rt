@@ -1,10 +1,10 @@
 use crate::bays::Bay;
-use crate::damage::{self, Damage};
 use crate::tally::Tally;
 use anyhow::{Result, bail, ensure};
 use checking::check::check;
 use checking::faults::CheckFault;
 use checking::solve::{Workspace, solve};
+use drawn::damage::{self, Damage};
 use games::machine::Game;
 use rival::arena::Arena;
 use rival::judging::{Fault, NONE};

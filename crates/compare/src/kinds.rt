@@ -1,7 +1,7 @@
 use crate::contest::Contest;
-use crate::draws::{self, Size};
 use crate::made::{lift, marked, sheet, watched};
 use anyhow::Result;
+use drawn::draws::{self, Size};
 use rival::random::Random;
 use std::alloc::Global;
 use std::fmt;

@@ -1,5 +1,5 @@
-use crate::draws::{self, Size};
 use anyhow::Result;
+use drawn::draws::{self, Size};
 use games::lift::Lift;
 use games::machine::Machine;
 use games::marked::Marked;

@@ -3,9 +3,7 @@
 
 mod bays;
 mod contest;
-mod damage;
 mod deals;
-mod draws;
 mod kinds;
 mod made;
 mod meeting;

@@ -1,9 +1,9 @@
 use crate::deals::Deals;
-use crate::draws;
 use crate::tally::Tally;
 use anyhow::{Result, ensure};
 use checking::faults::SearchFault;
 use checking::search::{Agreement, SearchWorkspace, search};
+use drawn::draws;
 use games::machine::Game;
 use reading::phase_table::PhaseTable;
 use rival::arena::Arena;

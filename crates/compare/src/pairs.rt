@@ -1,7 +1,7 @@
-use crate::draws::{self, Size};
 use crate::made::{lift, marked, sheet, watched};
 use crate::meeting::Meeting;
 use anyhow::Result;
+use drawn::draws::{self, Size};
 use rival::random::Random;
 use std::alloc::Global;
 use std::fmt;
