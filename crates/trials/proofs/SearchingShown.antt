@@ -1,5 +1,5 @@
 -- The first workable deal of two toggles: none of the four candidates before it is workable, and it is.
-use Rattle.std.proofs.Common.{◌≡◌, ℕ, zero, suc, ◌-◌, ◌<◌, ◌≤◌, Bool, true, false, List, [], ◌∷◌, length, get_or, Some, None, Ok, Err, Result, sym, refl, ap, ◌∙◌, subst, inl, inr, arith}
+use Rattle.std.proofs.Common.{◌≡◌, ℕ, zero, suc, ◌-◌, ◌<◌, Bool, true, List, [], ◌∷◌, length, get_or, None, Ok, Err, Result, sym, refl, ap, ◌∙◌, subst, inl, inr, arith}
 use mathlib.Core.Path.{fun_ext}
 use Rattle.std.proofs.lemmas.Bool.{cases_lt, true≢false}
 use Rattle.reading.specs.Bytes.{within}
@@ -16,13 +16,13 @@ use Rattle.checking.specs.declared.faults.SearchFault.{SearchFault}
 use Rattle.checking.specs.declared.faults.SearchFault.TheVariants as fault
 use Rattle.checking.specs.declared.search.Agreement.{Agreement}
 use Rattle.checking.specs.Arenas.{Arena, arena, promised, relied, follow}
-use Rattle.checking.specs.Controllers.{Plan, Controller, Controlled}
+use Rattle.checking.specs.Controllers.{Controlled}
 use Rattle.checking.specs.Searching.{both, promises, candidates, candidate, how_many, terms_of, search_head, Searches, Workable, NoneBefore}
 use Rattle.checking.proofs.CandidateLaws.{candidate_deal}
 use Rattle.checking.proofs.SearchingLaws.{untold}
 use Rattle.checking.proofs.PlayLaws.{follow_low}
 use Rattle.trials.specs.Toggles.{watched_toggle, toggle_marks}
-use Rattle.trials.specs.Checks.{bay, ranked}
+use Rattle.trials.specs.Checks.{bay}
 use Rattle.trials.specs.Searches.{toggles, toggles_marks, OnePhase, Finds, Searching}
 use Rattle.trials.proofs.SolvingShown.{plan, controls}
 
@@ -95,7 +95,7 @@ module _ (t : PhaseTable) (o : OnePhase t) where
       ∙ ap (playing_with 1 (has width 2) (has width 2)) (fun_ext (λ p. fun_ext (λ x. fun_ext (λ b. stays side p x b))))
 
   -- what a side plays under the fifth is what its solved record was made for
-  played : (side : ℕ) (d : Deal) → Dealt t.sizes (terms_of (both 2 2)) d → arena watched_toggle toggle_marks t d side ≡ bay
+  pub played : (side : ℕ) (d : Deal) → Dealt t.sizes (terms_of (both 2 2)) d → arena watched_toggle toggle_marks t d side ≡ bay
   played zero d on = playing 0 (promised d 0) (relied d 0) (ap (λ (s : Sides Terms). has width s.first.promise) on.terms) (ap (λ (s : Sides Terms). has width s.first.reliance) on.terms)
   played (suc n) d on = playing (suc n) (promised d 1) (relied d 1) (ap (λ (s : Sides Terms). has width s.second.promise) on.terms) (ap (λ (s : Sides Terms). has width s.second.reliance) on.terms)
 

@@ -6,7 +6,6 @@ use Rattle.reading.specs.Records.{parts_in}
 use Rattle.games.specs.Sets.{width, has}
 use Rattle.games.proofs.SetLaws.{in_words}
 use Rattle.checking.specs.Controllers.{Plan, plan_in, Kept, Serves, Rival, Controller}
-use Rattle.checking.specs.Solutions.{Solved}
 use Rattle.checking.proofs.BoundLaws.{kept_inside, bound_above}
 use Rattle.checking.proofs.ControllerLaws.{Fitted, controller_of}
 use Rattle.trials.specs.Toggles.{watched_toggle}

@@ -3,3 +3,5 @@ pub mod Shown
 pub mod Checks
 pub mod Solutions
 pub mod Searches
+pub mod Replays
+pub mod Witness

@@ -16,9 +16,11 @@ mod negotiation_tests;
 mod planning_tests;
 #[cfg(test)]
 mod reading_tests;
+pub mod replays;
+#[cfg(test)]
+mod replays_tests;
 #[cfg(test)]
 mod review_tests;
-#[cfg(test)]
 mod samples;
 #[cfg(test)]
 mod searching_tests;

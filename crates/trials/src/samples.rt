@@ -1,4 +1,4 @@
-//! Sheets that several tests read.
+//! Sheets that several examples read.
 
 // two states, labels 0 and 1, two signals each way; it changes state if both show 1
 pub(crate) const TOGGLE: [u8; 42] = [

@@ -1,0 +1,117 @@
+-- What a log answers, step by step.
+use Rattle.std.proofs.Common.{◌≡◌, ℕ, zero, suc, ◌<◌, Bool, true, false, List, [], ◌∷◌, length, map, take, Some, None, Ok, Err, sym, refl, ap, ◌∙◌, subst, arith}
+use Rattle.std.specs.Option.{option_map}
+use Rattle.std.proofs.lemmas.List.{take_all}
+use Rattle.reading.specs.declared.sides.Sides.{Sides}
+use Rattle.reading.specs.declared.phase_table.PhaseTable.{PhaseTable}
+use Rattle.reading.specs.Firsts.{first_some, unless}
+use Rattle.reading.specs.Records.{parts_in, record_fault}
+use Rattle.reading.proofs.FirstLaws.{of_none, of_right, unless_none}
+use Rattle.games.specs.declared.deal.Deal.{Deal}
+use Rattle.games.specs.Machines.{Model, Marks}
+use Rattle.checking.specs.declared.faults.CheckFault.TheVariants.{Sizes, RecordSizes}
+use Rattle.checking.specs.Arenas.{Arena, arena, suits}
+use Rattle.checking.specs.Controllers.{plan_in}
+use Rattle.checking.specs.Checks.{sized, plan_fault, check_fault}
+use Rattle.checking.specs.Faults.{numbers, unread}
+use Rattle.cell.specs.declared.copies.Standing.{Standing}
+use Rattle.cell.specs.declared.calls.Answer.{Answer}
+use Rattle.cell.specs.Faults.{Refusal, bare}
+use Rattle.cell.specs.Logs.{Games, Log, Event, Told, Offering, offered, reported, first, signals, unless_refused, unless_err, changes_fault, choice_fault, move_fault, offer_fault, bounds_of, in_force, moves, moved, answers_offer, answers_report, answers, after, run, all_answers, record_fault as offered_fault}
+use Rattle.cell.specs.Law.{BothMove, Accepted}
+use Rattle.cell.specs.Cells.{told, Fills}
+
+-- a record that passes in an arena passes the check that is made there
+pub passes : (m : Model) (k : Marks) (t : PhaseTable) (d : Deal) (side : ℕ) (xs : List ℕ) (a : Arena) → suits m t d side ≡ true → record_fault xs ≡ None → sized m t (parts_in xs) ≡ true →
+    arena m k t d side ≡ a → plan_fault a (plan_in xs) ≡ None → check_fault m k t d side xs ≡ None
+passes m k t d side xs a fits lawful size plays plan =
+    of_none _ _ (unless_none (suits m t d side) (numbers Sizes) fits)
+    (of_none _ _ (ap (option_map unread) lawful)
+    (of_none _ _ (unless_none (sized m t (parts_in xs)) (numbers RecordSizes) size) (ap (λ b. plan_fault b (plan_in xs)) plays ∙ plan)))
+
+-- an offer whose records pass is refused only for a change
+pub only_changes : (g : Games) (l : Log) (o : Offering) → offered_fault g o 0 ≡ None → offered_fault g o 1 ≡ None → offer_fault g l o ≡ changes_fault l.force l.at o
+only_changes g l o e h = of_right _ _ e ∙ of_right _ _ h
+
+pub accepts : (g : Games) (l : Log) (o : Offering) → offer_fault g l o ≡ None → answers_offer g l o ≡ Ok (bounds_of o)
+unfolding answers_offer
+accepts g l o e = ap (λ f. unless_refused f (bounds_of o)) e
+
+pub refuses : (g : Games) (l : Log) (o : Offering) (f : Refusal) → offer_fault g l o ≡ Some f → answers_offer g l o ≡ Err f
+unfolding answers_offer
+refuses g l o f e = ap (λ r. unless_refused r (bounds_of o)) e
+
+-- so it comes into force, or changes nothing
+pub comes : (g : Games) (l : Log) (o : Offering) (b : Sides ℕ) → answers_offer g l o ≡ Ok b → after g l (offered o) ≡ in_force o l
+comes g l o b e = ap (λ a. unless_err a (in_force o l) l) e
+
+pub stays : (g : Games) (l : Log) (o : Offering) (f : Refusal) → answers_offer g l o ≡ Err f → after g l (offered o) ≡ l
+stays g l o f e = ap (λ a. unless_err a (in_force o l) l) e
+
+-- and so does a report
+pub moves_on : (g : Games) (l : Log) (to s : Sides ℕ) → answers_report g l to ≡ Ok s → after g l (reported to) ≡ moved g to l
+moves_on g l to s e = ap (λ a. unless_err a (moved g to l) l) e
+
+pub stands : (g : Games) (l : Log) (to : Sides ℕ) (f : Refusal) → answers_report g l to ≡ Err f → after g l (reported to) ≡ l
+stands g l to f e = ap (λ a. unless_err a (moved g to l) l) e
+
+not_accepted : (f : Refusal) → Accepted (Err f) → ⊥
+not_accepted f a = let e = a.1 in let z : ◌≡◌ {A = ℕ} 0 1 = cc in omega arith
+
+-- two tests are passed if there is an answer, and only then
+both_passed : (b c : Bool) (f h : Refusal) (x : Sides ℕ) → Accepted (unless_refused (first_some (unless b f) (unless c h)) x) → (b ≡ true) × (c ≡ true)
+both_passed true true f h x a = (refl, refl)
+both_passed true false f h x a = absurd (not_accepted h a)
+both_passed false c f h x a = absurd (not_accepted f a)
+
+passed : (b c : Bool) (f h : Refusal) (x : Sides ℕ) → b ≡ true → c ≡ true → unless_refused (first_some (unless b f) (unless c h)) x ≡ Ok x
+passed b c f h x e d = rw (e, d) refl
+
+module _ (g : Games) (a : Standing) (o : Offering) where
+  abbrev pub here : Log
+  here = record { at = a; force = Some o }
+
+  module _ (c0 : choice_fault here 0 ≡ None) (c1 : choice_fault here 1 ≡ None) (to : Sides ℕ) where
+    -- where both sides have a choice, it is on their moves alone
+    reported_by : answers_report g here to ≡ unless_refused (first_some (move_fault g here to 0) (move_fault g here to 1)) (signals (moved g to here))
+    unfolding answers_report
+    reported_by = ap (λ f. unless_refused f (signals (moved g to here))) (of_right _ _ c0 ∙ of_right _ _ c1)
+
+    pub only_moves : Accepted (answers_report g here to) → BothMove g here to
+    only_moves h = both_passed (moves g here 0 to.first) (moves g here 1 to.second) (bare 33 0) (bare 33 1) (signals (moved g to here)) (subst Accepted reported_by h)
+
+    pub all_moves : BothMove g here to → answers_report g here to ≡ Ok (signals (moved g to here))
+    all_moves h = reported_by ∙ passed (moves g here 0 to.first) (moves g here 1 to.second) (bare 33 0) (bare 33 1) (signals (moved g to here)) h.0 h.1
+
+-- calls in turn, what they are answered, and what holds after each
+pub data Goes (g : Games) (P : Log → Type 0) : List Event → Log → List Told → Type 0 where
+  ends : {l : Log} → Goes g P [] l []
+  goes : {e : Event} {es : List Event} {l next : Log} {a : Told} {rest : List Told} → answers g l e ≡ a → after g l e ≡ next → P next → Goes g P es next rest → Goes g P (e ∷ es) l (a ∷ rest)
+
+module _ (g : Games) (P : Log → Type 0) where
+  pub answers_by : {es : List Event} {l : Log} {given : List Told} → Goes g P es l given → all_answers g es l ≡ given
+  unfolding all_answers
+  answers_by ends = refl
+  answers_by (goes now then kept later) = rw (now, then, answers_by later) refl
+
+  pub holds_by : {es : List Event} {l : Log} {given : List Told} → Goes g P es l given → P l → (n : ℕ) → P (run g (take n es) l)
+  unfolding run
+  holds_by ends kept zero = kept
+  holds_by ends kept (suc n) = kept
+  holds_by (goes now then next later) kept zero = kept
+  holds_by (goes {es = es} now then next later) kept (suc n) = subst (λ (l : Log). P (run g (take n es) l)) (sym then) (holds_by later next n)
+
+  -- after the first call on, whatever held before it
+  pub holds_after : {e : Event} {es : List Event} {l : Log} {given : List Told} → Goes g P (e ∷ es) l given → (n : ℕ) → 0 < n → P (run g (take n (e ∷ es)) l)
+  unfolding run
+  holds_after h zero k = absurd (omega arith)
+  holds_after (goes {es = es} now then next later) (suc n) k = subst (λ (l : Log). P (run g (take n es) l)) (sym then) (holds_by later next n)
+
+-- with room for all answers, what is filled in is what the log answers
+pub filled : (g : Games) (events : List Event) (given : List Told) (old new : List Answer) (count : ℕ) → length old ≡ length events → all_answers g events (first g) ≡ given →
+    Fills g events old new count → map told new ≡ given
+filled g events given old new count size by_log f =
+    let all : count ≡ length events = omega (arith, f.many, size) in
+    let whole : take count new ≡ new = take_all count new (omega (arith, f.size, size, all)) in
+    let every : take count events ≡ events = take_all count events (omega (arith, all)) in
+    ap (map told) (sym whole) ∙ f.replayed.answered ∙ ap (λ (es : List Event). all_answers g es (first g)) every ∙ by_log
