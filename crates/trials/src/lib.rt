@@ -16,6 +16,8 @@ mod negotiation_tests;
 mod planning_tests;
 #[cfg(test)]
 mod reading_tests;
+#[cfg(test)]
+mod recordings_tests;
 pub mod replays;
 #[cfg(test)]
 mod replays_tests;

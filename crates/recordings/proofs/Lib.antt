@@ -1,0 +1,4 @@
+pub mod MarkLaws
+pub mod AnswerLaws
+pub mod CountLaws
+pub mod RetellLaws

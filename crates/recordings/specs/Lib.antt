@@ -1,0 +1,5 @@
+pub mod Damages
+pub mod Calls
+pub mod Marks
+pub mod Lines
+pub mod Recordings
