@@ -1,5 +1,5 @@
 -- What an offer does to the log that a cell shows.
-use Rattle.std.proofs.Common.{◌≡◌, ℕ, zero, suc, ◌≤◌, Bor, length, Some, None, Ok, Err, Option, Result, MatchResult, IfOk, is_ok, is_some, true, false, Decides, sym, refl, ap, subst, ◌∙◌, mul-le-mul, arith}
+use Rattle.std.proofs.Common.{◌≡◌, ℕ, zero, suc, ◌≤◌, Bor, length, Some, None, Ok, Err, Option, Result, MatchResult, IfOk, is_ok, true, false, Decides, sym, refl, ap, subst, ◌∙◌, mul-le-mul, arith}
 use Rattle.reading.specs.Records.{parts_in, bound_of}
 use Rattle.reading.specs.Sides.{pick}
 use Rattle.checking.specs.Searching.{both}

@@ -13,6 +13,7 @@ use Rattle.cell.specs.declared.copies.Mode.{Mode}
 use Rattle.cell.specs.declared.copies.Mode.TheVariants as mode
 use Rattle.cell.specs.declared.copies.Copies.{Copies}
 use Rattle.cell.specs.declared.cell.Cell.{Cell}
+use Rattle.cell.specs.declared.cell.Room.{Room}
 use Rattle.cell.specs.declared.calls.Answer.{Answer}
 use Rattle.cell.specs.declared.calls.Answer.TheVariants as answer
 use Rattle.cell.specs.declared.calls.Question.{Question}
@@ -53,6 +54,10 @@ abbrev pub event : Call → Event
 event (call.Offer o) = offered (owned o)
 event (call.Report r) = reported r.states
 event (call.Ask q) = asked q
+
+-- room that holds no record yet
+abbrev pub Empty : Room → Type 0
+Empty r = (vec_items r.records.first.bytes ≡ []) × (vec_items r.records.second.bytes ≡ [])
 
 -- the offer that a cell holds copies of
 abbrev pub copied : Copies → Offering

@@ -3,7 +3,7 @@ mod calls;
 
 ghost use Rattle.std.specs.Prelude.{◌≡◌, IfOk};
 ghost use Rattle.cell.specs.Logs.{begun};
-ghost use Rattle.cell.specs.Cells.{Made};
+ghost use Rattle.cell.specs.Cells.{Empty, Made};
 
 use crate::copies::{Copies, Mode, Standing};
 use crate::kept::Kept;
@@ -31,7 +31,9 @@ pub struct Room {
 
 impl Room {
     /// Room for the longest records.
-    pub fn new(heap: Global) -> Result<Room, AllocError> {
+    pub fn new(heap: Global) -> Result<Room, AllocError>
+        ensures { IfOk result Empty }
+    {
         Ok(Room {
             records: Sides {
                 first: Kept::new(heap)?,

@@ -31,12 +31,12 @@ impl Kept {
     }
 
     /// Copies a record.
-    pub(crate) fn keep(&mut self, record: &[u8])
-        requires { length record.now ≤ 6148 }
-        ensures { vec_items self.new.bytes ≡ record.now }
+    pub(crate) fn keep(&mut self, source: &[u8])
+        requires { length source.now ≤ 6148 }
+        ensures { vec_items self.new.bytes ≡ source.now }
     {
         self.bytes.clear();
         // there is room for the longest
-        self.bytes.extend_from_slice(record).unwrap();
+        self.bytes.extend_from_slice(source).unwrap();
     }
 }

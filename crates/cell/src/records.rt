@@ -10,31 +10,31 @@ use reading::records::{NO_CHOICE, NO_RANK, Position, places};
 const HEAD: usize = 4;
 
 /// Whether a record has a position.
-fn has(record: &[u8], at: Position) -> bool
-    ensures { result ≡ inside (parts_in record.now) at.state at.phase }
+fn has(bytes: &[u8], at: Position) -> bool
+    ensures { result ≡ inside (parts_in bytes.now) at.state at.phase }
 {
-    at.state < pair_at(record, 0) && at.phase < byte_at(record, 2)
+    at.state < pair_at(bytes, 0) && at.phase < byte_at(bytes, 2)
 }
 
 /// The signal that a record shows at a position; 255 where there is none.
-pub(crate) fn choice_in(record: &[u8], at: Position) -> u8
-    ensures { result ≡ choice_at (parts_in record.now) at.state at.phase }
+pub(crate) fn choice_in(bytes: &[u8], at: Position) -> u8
+    ensures { result ≡ choice_at (parts_in bytes.now) at.state at.phase }
 {
-    if has(record, at) {
-        byte_at(record, HEAD + at.place(byte_at(record, 2)))
+    if has(bytes, at) {
+        byte_at(bytes, HEAD + at.place(byte_at(bytes, 2)))
     } else {
         NO_CHOICE
     }
 }
 
 /// The rank that a record has at a position; 65,535 where there is none.
-pub(crate) fn rank_in(record: &[u8], at: Position) -> u16
-    ensures { result ≡ rank_at (parts_in record.now) at.state at.phase }
+pub(crate) fn rank_in(bytes: &[u8], at: Position) -> u16
+    ensures { result ≡ rank_at (parts_in bytes.now) at.state at.phase }
 {
-    if has(record, at) {
-        let phases = byte_at(record, 2);
-        let ranks = HEAD + places(pair_at(record, 0), phases);
-        pair_at(record, ranks + 2 * at.place(phases))
+    if has(bytes, at) {
+        let phases = byte_at(bytes, 2);
+        let ranks = HEAD + places(pair_at(bytes, 0), phases);
+        pair_at(bytes, ranks + 2 * at.place(phases))
     } else {
         NO_RANK
     }
