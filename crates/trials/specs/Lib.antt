@@ -5,3 +5,4 @@ pub mod Solutions
 pub mod Searches
 pub mod Replays
 pub mod Witness
+pub mod Examples
