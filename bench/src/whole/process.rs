@@ -38,6 +38,8 @@ impl Program {
             .args(&self.words)
             .stdin(Stdio::piped())
             .stdout(Stdio::piped())
+            // why it refuses; the line on standard output is compared
+            .stderr(Stdio::null())
             .spawn()
             .expect("the program starts");
         // an input fits the pipe; what is too long for the program need not be read to its end

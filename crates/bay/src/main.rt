@@ -6,6 +6,7 @@ use console::input::{BAY_LIMIT, read_input};
 use console::words::ask_help;
 use negotiation::line::line;
 use negotiation::negotiator::Negotiator;
+use negotiation::words::Explained;
 use std::env;
 
 const USAGE: &str = "usage: bay < BAY
@@ -15,7 +16,7 @@ prints one line: deal A B tries T bounds X Y
   A B   what side 0 and side 1 promise, each in one number: bit 4 x p + j is signal j in phase p
   T     the place of that deal among all candidates
   X Y   at most so many ticks is each side's machine from a goal
-or: refused N, with the number of what is wrong
+or: refused N, with the number of what is wrong; where it is, what it means and what to do goes to standard error
 ";
 
 fn main(rt: HostRuntime) -> anyhow::Result<()> {
@@ -31,5 +32,9 @@ fn main(rt: HostRuntime) -> anyhow::Result<()> {
     let bytes = read_input(heap, rt.stdin(), BAY_LIMIT)?;
     let outcome = Negotiator::new(heap)?.negotiate(bytes.as_slice());
     rt.print(line(heap, &outcome)?)?;
+    // the one line is for the machines that read it; whoever looks on is told why
+    if let Err(refusal) = outcome {
+        eprintln!(rt; "{}", Explained(refusal))?;
+    }
     Ok(())
 }

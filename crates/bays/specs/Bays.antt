@@ -19,6 +19,7 @@ pub record Blame : Type 0 where
   pub part : ℕ
   pub fault : Fault
 
+-- a fault in a part
 abbrev pub at : ℕ → Fault → Blame
 at part f = record { part = part; fault = f }
 

@@ -13,10 +13,11 @@ pub record Parts : Type 0 where
   pub rule1 : List ℕ
   pub table : List ℕ
 
--- the length that is given for part i, and where the part begins
+-- the length that is given for part i
 abbrev pub size_in : List ℕ → ℕ → ℕ
 size_in xs i = pair xs (2 * i)
 
+-- the length that the five lengths ask for
 abbrev pub total : List ℕ → ℕ
 total xs = 10 + size_in xs 0 + size_in xs 1 + size_in xs 2 + size_in xs 3 + size_in xs 4
 

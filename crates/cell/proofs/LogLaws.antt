@@ -10,7 +10,7 @@ use Rattle.games.specs.Sets.{width}
 use Rattle.checking.specs.Arenas.{promised, relied}
 use Rattle.checking.specs.Controllers.{plan_in, Serves}
 use Rattle.cell.specs.declared.copies.Standing.{Standing}
-use Rattle.cell.specs.Logs.{Games, Log, Offering, own, partner, first, signals, signals_in, ranks_in, moved, taken, changes_fault, change_fault, report_fault}
+use Rattle.cell.specs.Logs.{Games, Log, Offering, own, partner, signals, signals_in, ranks_in, moved, taken, changes_fault, change_fault, report_fault}
 use Rattle.cell.specs.Law.{Guarantee, BothMove, Holds, Lawful}
 use Rattle.cell.specs.Running.{plays, Runs, RunsAt, BothRun, Rests, Good}
 use Rattle.cell.specs.Cells.{Passed}
@@ -37,9 +37,6 @@ shows o a (suc n) = refl
 ranked : (o : Offering) (a : Standing) (side : ℕ) → own side (ranks_in (Some o) a) ≡ rank_at (parts_in (own side o.records)) (own side a.states) a.phase
 ranked o a zero = refl
 ranked o a (suc n) = refl
-
-pub good_first : (g : Games) → Good g (first g)
-good_first g = (record { start = refl; fresh = refl; none = refl }, record { start = refl; fresh = refl; none = refl })
 
 module _ (g : Games) (o : Offering) (a : Standing) (h : BothRun g o a) where
   -- a side's choice serves at its position

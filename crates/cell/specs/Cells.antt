@@ -26,7 +26,7 @@ use Rattle.cell.specs.Logs.{Games, own, Log, Event, Told, asked, offered, report
 use Rattle.cell.specs.Law.{Law}
 use Rattle.cell.specs.Running.{Good}
 
--- an answer as the log has it: each fault by its number, its values and its side
+-- a result as the log has it: each fault by its number, its values and its side
 abbrev pub told_result : Result (Sides ℕ) CellFault → Result (Sides ℕ) Refusal
 told_result = result_map_both (λ x. x) numbers
 
@@ -34,6 +34,7 @@ told_result = result_map_both (λ x. x) numbers
 abbrev pub refused : {A : Type 0} → Result A CellFault → Option Refusal
 refused r = option_map numbers (result_err r)
 
+-- an answer of the cell as the log has it
 abbrev pub told : Answer → Told
 told (answer.Offered r) = to_offer (told_result r)
 told (answer.Reported r) = to_report (told_result r)
@@ -43,13 +44,15 @@ told (answer.Waits x) = waits x
 told (answer.Signals x) = signals_shown x
 told (answer.Ranks x) = ranks_shown x
 
--- an offer that a caller passes, one that is kept, and any call, as the log has them
+-- an offer that a caller passes, as the log has it
 abbrev pub offering : Offer → Offering
 offering o = record { table = o.table.now; deal = o.deal.now; records = both o.records.first.now o.records.second.now }
 
+-- an offer in a list of calls
 abbrev pub owned : OwnedOffer → Offering
 owned o = record { table = o.table; deal = o.deal; records = both (vec_items o.records.first) (vec_items o.records.second) }
 
+-- a call
 abbrev pub event : Call → Event
 event (call.Offer o) = offered (owned o)
 event (call.Report r) = reported r.states
@@ -63,11 +66,12 @@ Empty r = (vec_items r.records.first.bytes ≡ []) × (vec_items r.records.secon
 abbrev pub copied : Copies → Offering
 copied x = record { table = x.table; deal = x.deal; records = both (vec_items x.records.first.bytes) (vec_items x.records.second.bytes) }
 
--- the log that a cell shows
+-- the offer in force in a cell, by whether it runs
 abbrev pub force_in : Mode → Copies → Option Offering
 force_in mode.Idle x = None
 force_in mode.Running x = Some (copied x)
 
+-- the log that a cell shows, by its mode and its copies
 abbrev pub shown : Mode → Copies → Log
 shown m x = record { at = x.standing; force = force_in m x }
 
@@ -81,14 +85,17 @@ pub record Passed (m : Model) (k : Marks) (o : Offering) (side bound : ℕ) : Ty
   pub largest : Bound (plan_in (own side o.records)) bound
   pub value : bound ≡ bound_of (parts_in (own side o.records))
 
+-- the log that a cell shows
 abbrev pub seen : {A B : Type 0} → Cell A B → Log
 seen c = shown c.mode c.copies
 
 module _ {A B : Type 0} (m0 : A → Model) (k0 : A → Marks) (m1 : B → Model) (k1 : B → Marks) where
   -- what the games of a cell mean
+  -- what two games mean
   abbrev pub both_mean : A → B → Games
   both_mean x y = record { machines = both (m0 x) (m1 y); marks = both (k0 x) (k1 y) }
 
+  -- what the games of a cell mean
   abbrev pub games : Cell A B → Games
   games c = both_mean c.first c.second
 

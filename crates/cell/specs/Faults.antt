@@ -10,6 +10,7 @@ pub record Refusal : Type 0 where
   pub fault : CheckRefusal
   pub side : ℕ
 
+-- a refusal of checking about a side
 abbrev pub about : ℕ → CheckRefusal → Refusal
 about side f = record { fault = f; side = side }
 

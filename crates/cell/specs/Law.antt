@@ -41,6 +41,7 @@ pub record Guarantee (g : Games) (l : Log) (o : Offering) (side : ℕ) : Type 0 
 abbrev pub BothMove : Games → Log → Sides ℕ → Type 0
 BothMove g l to = (moves g l 0 to.first ≡ true) × (moves g l 1 to.second ≡ true)
 
+-- a report is answered by signals
 abbrev pub Accepted : Result (Sides ℕ) Refusal → Type 0
 Accepted r = (x : Sides ℕ) × (r ≡ Ok x)
 
@@ -66,6 +67,7 @@ if_accepted (waits w) x y = y
 if_accepted (signals_shown s) x y = y
 if_accepted (ranks_shown r) x y = y
 
+-- the last accepted offer after a call and its answer
 abbrev pub accepted_by : Event → Told → Option Offering → Option Offering
 accepted_by (offered o) a before = if_accepted a (Some o) before
 accepted_by (reported to) a before = before
@@ -77,7 +79,7 @@ last_accepted [] given before = before
 last_accepted (e ∷ es) [] before = before
 last_accepted (e ∷ es) (a ∷ given) before = last_accepted es given (accepted_by e a before)
 
--- for each side the largest bound that an accepted offer has answered, told from the answers alone
+-- for each side the larger of a bound and what an answer tells, if it is that of an accepted offer
 abbrev pub raised : Told → Sides ℕ → Sides ℕ
 raised (to_offer (Ok b)) m = both (max m.first b.first) (max m.second b.second)
 raised (to_offer (Err f)) m = m
@@ -88,6 +90,7 @@ raised (waits w) m = m
 raised (signals_shown s) m = m
 raised (ranks_shown r) m = m
 
+-- for each side the largest bound that an accepted offer has answered, told from the answers alone
 unfoldable pub largest_answered : List Told → Sides ℕ → Sides ℕ
 largest_answered [] m = m
 largest_answered (a ∷ given) m = largest_answered given (raised a m)

@@ -23,10 +23,11 @@ pub record Games : Type 0 where
   pub machines : Sides Model
   pub marks : Sides Marks
 
--- a side's value, and its partner's
+-- a side's value
 abbrev pub own : {A : Type 0} → ℕ → Sides A → A
 own side x = pick side x.first x.second
 
+-- its partner's
 abbrev pub partner : {A : Type 0} → ℕ → Sides A → A
 partner side x = pick side x.second x.first
 
@@ -57,10 +58,11 @@ pub record Log : Type 0 where
   pub at : Standing
   pub force : Option Offering
 
--- at first both machines are at their start, and no offer is in force
+-- where two machines begin: no wait, no bound, phase 0
 abbrev pub begun : Sides ℕ → Standing
 begun at = record { states = at; phase = 0; waits = both 0 0; bounds = both 0 0 }
 
+-- the log before any call
 abbrev pub first : Games → Log
 first g = record { at = begun (both g.machines.first.start g.machines.second.start); force = None }
 
@@ -74,9 +76,11 @@ abbrev pub ranks_in : Option Offering → Standing → Sides ℕ
 ranks_in None a = both 65535 65535
 ranks_in (Some o) a = both (rank_at (parts_in o.records.first) a.states.first a.phase) (rank_at (parts_in o.records.second) a.states.second a.phase)
 
+-- the signals that a log shows
 abbrev pub signals : Log → Sides ℕ
 signals l = signals_in l.force l.at
 
+-- the ranks that it gives
 abbrev pub ranks : Log → Sides ℕ
 ranks l = ranks_in l.force l.at
 
@@ -89,6 +93,7 @@ unless_refused None x = Ok x
 abbrev pub side_fault : Model → Marks → Offering → ℕ → Option Refusal
 side_fault m k o side = option_map (about side) (check_fault m k o.table o.deal side (own side o.records))
 
+-- the same by the games of both sides
 abbrev pub record_fault : Games → Offering → ℕ → Option Refusal
 record_fault g o side = side_fault (own side g.machines) (own side g.marks) o side
 
@@ -111,6 +116,7 @@ offer_fault g l o = first_some (record_fault g o 0) (first_some (record_fault g 
 abbrev pub bounds_of : Offering → Sides ℕ
 bounds_of o = both (bound_of (parts_in o.records.first)) (bound_of (parts_in o.records.second))
 
+-- what an offer is answered: its bounds, or the first refusal
 unfoldable pub answers_offer : Games → Log → Offering → Result (Sides ℕ) Refusal
 answers_offer g l o = unless_refused (offer_fault g l o) (bounds_of o)
 
@@ -123,6 +129,7 @@ taken b a = record {
   bounds = both (max a.bounds.first b.first) (max a.bounds.second b.second);
 }
 
+-- the log after it
 abbrev pub in_force : Offering → Log → Log
 in_force o l = record { at = taken (bounds_of o) l.at; force = Some o }
 
@@ -138,13 +145,14 @@ choice_fault l side = unless (not (own side (signals l) == 255)) (numbers (NoCho
 abbrev pub move_fault : Games → Log → Sides ℕ → ℕ → Option Refusal
 move_fault g l to side = unless (moves g l side (own side to)) (numbers (NoSuchMove side))
 
--- the first refusal of a report: there is no offer in force; then each side's choice, then each side's move
+-- the first refusal of a report while an offer is in force: each side's choice, then each side's move
 abbrev pub running_fault : Games → Log → Sides ℕ → Option Refusal
 running_fault g l to =
     first_some (choice_fault l 0)
     (first_some (choice_fault l 1)
     (first_some (move_fault g l to 0) (move_fault g l to 1)))
 
+-- the same at any time: first, that there is no offer in force
 abbrev pub report_fault : Games → Log → Sides ℕ → Option Refusal
 report_fault g l to = first_some (unless (is_some l.force) (numbers Idle)) (running_fault g l to)
 
@@ -171,9 +179,11 @@ moved g to l = record {
   force = l.force;
 }
 
+-- what a report is answered: the signals shown next, or the first refusal
 unfoldable pub answers_report : Games → Log → Sides ℕ → Result (Sides ℕ) Refusal
 answers_report g l to = unless_refused (report_fault g l to) (signals (moved g to l))
 
+-- what a question is answered
 abbrev pub answers_question : Log → Question → Told
 answers_question l question.States = states l.at.states
 answers_question l question.Phase = phase l.at.phase
@@ -187,21 +197,23 @@ answers g l (offered o) = to_offer (answers_offer g l o)
 answers g l (reported to) = to_report (answers_report g l to)
 answers g l (asked q) = answers_question l q
 
--- the log after a call: what is refused, and a question, changes nothing
+-- the new log unless there is a refusal
 abbrev pub unless_err : {A : Type 0} → Result A Refusal → Log → Log → Log
 unless_err (Ok x) new old = new
 unless_err (Err f) new old = old
 
+-- the log after a call: what is refused, and a question, changes nothing
 abbrev pub after : Games → Log → Event → Log
 after g l (offered o) = unless_err (answers_offer g l o) (in_force o l) l
 after g l (reported to) = unless_err (answers_report g l to) (moved g to l) l
 after g l (asked q) = l
 
--- the log after some calls, and the answers to them
+-- the log after some calls
 unfoldable pub run : Games → List Event → Log → Log
 run g [] l = l
 run g (e ∷ es) l = run g es (after g l e)
 
+-- the answers to them, one for one
 unfoldable pub all_answers : Games → List Event → Log → List Told
 all_answers g [] l = []
 all_answers g (e ∷ es) l = answers g l e ∷ all_answers g es (after g l e)

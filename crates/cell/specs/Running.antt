@@ -18,9 +18,11 @@ pub record Runs (a : Arena) (c : Plan) (s p w m : ℕ) : Type 0 where
   pub fresh : a.goal s ≡ true → w ≡ 0
   pub small : m ≤ 65534
 
+-- the same by the offer in force and where both machines stand
 abbrev pub RunsAt : Games → Offering → Standing → ℕ → Type 0
 RunsAt g o a side = Runs (plays g o side) (plan_in (own side o.records)) (own side a.states) a.phase (own side a.waits) (own side a.bounds)
 
+-- both sides of a running log
 pub record BothRun (g : Games) (o : Offering) (a : Standing) : Type 0 where
   pub first : RunsAt g o a 0
   pub second : RunsAt g o a 1
@@ -37,5 +39,6 @@ abbrev pub GoodIn : Games → Option Offering → Standing → Type 0
 GoodIn g None a = Rests g a 0 × Rests g a 1
 GoodIn g (Some o) a = BothRun g o a
 
+-- the same of a whole log
 abbrev pub Good : Games → Log → Type 0
 Good g l = GoodIn g l.force l.at

@@ -1,9 +1,7 @@
 ghost use Rattle.std.specs.Prelude.{◌≡◌, ◌≤◌, [], length, IfOk, vec_items, vec_capacity};
 
+use reading::records::LONGEST;
 use std::alloc::{AllocError, Global};
-
-/// The longest record: of 256 states and 8 phases.
-const LONGEST: usize = 6_148;
 
 /// A cell's own copy of a record.
 #[derive(Drop)]

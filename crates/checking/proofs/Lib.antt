@@ -14,6 +14,8 @@ pub mod SolutionLaws
 pub mod UniqueLaws
 pub mod SolveLaws
 pub mod MarkLaws
+pub mod FilterLaws
+pub mod BlockLaws
 pub mod PromiseLaws
 pub mod CandidateLaws
 pub mod VerdictLaws

@@ -1,80 +1,16 @@
 -- The promises of a side, listed phase by phase: those over one phase more are those over the phases before, with each set of the new one.
-use Rattle.std.proofs.Common.{◌≡◌, ℕ, zero, suc, ◌+◌, ◌-◌, ◌*◌, ◌/◌, ◌%◌, ◌^◌, ◌<◌, ◌≤◌, Bool, true, false, not, ◌&&◌, cond, List, [], ◌∷◌, ◌++◌, length, map, take, set, get_or, eqb, refl, sym, ap, ◌∙◌, subst, inl, inr, suc-mul, zero-mul, one-mul, add-mul, mul_assoc, le-div_iff_mul-le, mul-le-mul, mul-le-mul_right, add_comm, mul_comm, pow_mono, arith}
-use mathlib.Core.Path.{fun_ext}
-use Rattle.std.proofs.Math.Seq.{take-append_seam}
-use Rattle.std.proofs.lemmas.Simd.{map-map}
+use Rattle.std.proofs.Common.{◌≡◌, ℕ, zero, suc, ◌+◌, ◌-◌, ◌*◌, ◌/◌, ◌%◌, ◌^◌, ◌<◌, ◌≤◌, Bool, true, false, not, ◌&&◌, List, [], ◌∷◌, ◌++◌, length, get_or, eqb, refl, sym, ap, ◌∙◌, subst, suc-mul, add-mul, mul_assoc, le-div_iff_mul-le, mul-le-mul, mul-le-mul_right, mul_comm, pow_mono, arith}
 use Rattle.std.proofs.Math.Nat.{mul-add-mod_self_right}
-use Rattle.std.proofs.lemmas.Bool.{eq-eqb, ne_eqb, ltb-true, and_parts, cases_Bool, cases_lt}
-use Rattle.std.proofs.lemmas.List.{append-nil, length-append, length-map, get_or-set_same, get_or-set_other, get_or-map, get_or-take, ext_get_or}
+use Rattle.std.proofs.lemmas.Bool.{eq-eqb, ne_eqb, ltb-true, and_parts}
+use Rattle.std.proofs.lemmas.List.{append-nil, get_or-map, get_or-take}
 use Rattle.std.proofs.lemmas.List.Elements.{filter-append}
 use Rattle.std.proofs.lemmas.Nat.{pow-add, pow_pos, shr_high, field_of, div-add-mod', mod_below, div_below}
 use Rattle.std.specs.List.{range_with_len, filter}
 use Rattle.reading.proofs.Bits.{shift_none, shift_some, shift_zero}
 use Rattle.games.specs.Sets.{width, row, after, all_below, filled, described}
 use Rattle.checking.specs.Searching.{promises}
-
--- filters of ranges
-
--- a range in two parts
-range_split : (a m n : ℕ) → range_with_len a (m + n) ≡ range_with_len a m ++ range_with_len (a + m) n
-range_split a zero n =
-    let e : a ≡ a + 0 = omega arith in
-    let f : 0 + n ≡ n = omega arith in
-    ap (range_with_len a) f ∙ ap (λ b. range_with_len b n) e
-range_split a (suc m) n =
-    let e : a + 1 + m ≡ a + suc m = omega arith in
-    let f : suc m + n ≡ suc (m + n) = omega arith in
-    ap (range_with_len a) f ∙ ap (λ xs. a ∷ xs) (range_split (a + 1) m n ∙ ap (λ b. range_with_len (a + 1) m ++ range_with_len b n) e)
-
-range_from : (m n : ℕ) → range_with_len 0 (m + n) ≡ range_with_len 0 m ++ range_with_len m n
-range_from m n = let e : 0 + m ≡ m = omega arith in range_split 0 m n ∙ ap (λ b. range_with_len 0 m ++ range_with_len b n) e
-
--- where nothing passes, nothing is left
-filter_none : (f : ℕ → Bool) (a n : ℕ) → ((i : ℕ) → a ≤ i → i < a + n → f i ≡ false) → filter f (range_with_len a n) ≡ []
-filter_none f a zero h = refl
-filter_none f a (suc n) h =
-    ap (λ t. cond t (a ∷ filter f (range_with_len (a + 1) n)) (filter f (range_with_len (a + 1) n))) (h a (omega arith) (omega arith))
-    ∙ filter_none f (a + 1) n (λ i l m. h i (omega arith) (omega arith))
-
--- a test that answers as another does so far back
-filter_moved : (f g : ℕ → Bool) (a b n : ℕ) → ((i : ℕ) → b ≤ i → i < b + n → f (a + i) ≡ g i) →
-    filter f (range_with_len (a + b) n) ≡ map (λ x. a + x) (filter g (range_with_len b n))
-filter_moved f g a b zero h = refl
-filter_moved f g a b (suc n) h =
-    let rest : List ℕ = filter g (range_with_len (b + 1) n) in
-    let e : a + b + 1 ≡ a + (b + 1) = omega arith in
-    ap (λ xs. cond (f (a + b)) ((a + b) ∷ xs) xs) (ap (λ s. filter f (range_with_len s n)) e ∙ filter_moved f g a (b + 1) n (λ i l m. h i (omega arith) (omega arith)))
-    ∙ ap (λ t. cond t ((a + b) ∷ map (λ x. a + x) rest) (map (λ x. a + x) rest)) (h b (omega arith) (omega arith))
-    ∙ out (g b) rest
-  where
-    out : (t : Bool) (xs : List ℕ) → cond t ((a + b) ∷ map (λ x. a + x) xs) (map (λ x. a + x) xs) ≡ map (λ x. a + x) (cond t (b ∷ xs) xs)
-    out true xs = refl
-    out false xs = refl
-
--- what is left passes
-passes_on : (f : ℕ → Bool) (x : ℕ) (xs : List ℕ) (j d : ℕ) → f x ≡ true → ((i : ℕ) → i < length xs → f (get_or xs i d) ≡ true) →
-    j < length (x ∷ xs) → f (get_or (x ∷ xs) j d) ≡ true
-passes_on f x xs zero d e h l = e
-passes_on f x xs (suc j) d e h l = h j (omega arith)
-
-pub filter_passes : (f : ℕ → Bool) (xs : List ℕ) (i d : ℕ) → i < length (filter f xs) → f (get_or (filter f xs) i d) ≡ true
-filter_passes f [] i d h = absurd (omega arith)
-filter_passes f (x ∷ xs) i d h = elim (cases_Bool (f x)) [
-  | inl e ↦ rw e (passes_on f x (filter f xs) i d e (λ j. filter_passes f xs j d) (rw e at h))
-  | inr e ↦ rw e (filter_passes f xs i d (rw e at h))
-]
-
--- a list so many times, each time by a unit more
-abbrev pub blocks : ℕ → List ℕ → ℕ → List ℕ
-blocks unit base zero = []
-blocks unit base (suc d) = blocks unit base d ++ map (λ x. suc d * unit + x) base
-
-pub length_blocks : (unit : ℕ) (base : List ℕ) (d : ℕ) → length (blocks unit base d) ≡ d * length base
-length_blocks unit base zero = sym (zero-mul (length base))
-length_blocks unit base (suc d) =
-    let e : d * length base + length base ≡ suc d * length base = sym (suc-mul d (length base)) in
-    length-append (blocks unit base d) _ ∙ ap (λ n. n + length (map (λ x. suc d * unit + x) base)) (length_blocks unit base d)
-    ∙ ap (λ n. d * length base + n) (length-map base _) ∙ e
+use Rattle.checking.proofs.FilterLaws.{range_from, filter_none, filter_moved, filter_passes}
+use Rattle.checking.proofs.BlockLaws.{blocks, length_blocks, first_block}
 
 -- numbers of one phase more: a set of the new phase, and what a number holds of the phases before
 module _ (k p : ℕ) where
@@ -241,61 +177,6 @@ promise_below p k i d h = low (get_or (promises p k) i d) (and_parts _ _ (promis
   where
     low : (x : ℕ) → eqb (after width x p) 0 ≡ true → x < 2 ^ (width * p)
     low x e = ltb-true _ _ (sym (shift_zero x (width * p)) ∙ e)
-
--- the first so many numbers have a unit more, the others are as they were
-pub record Raised (unit : ℕ) (old new : List ℕ) (n : ℕ) : Type 0 where
-  pub done : (i : ℕ) → i < n → get_or new i 0 ≡ unit + get_or old i 0
-  pub rest : (i : ℕ) → n ≤ i → get_or new i 0 ≡ get_or old i 0
-
-pub raise_next : (unit n : ℕ) (old now : List ℕ) → n < length now → Raised unit old now n → Raised unit old (set now n (get_or now n 0 + unit)) (suc n)
-raise_next unit n old now h r = record {
-  done = λ i l. elim (cases_lt i n) [
-    | inl m ↦ get_or-set_other now n i _ 0 (λ e. omega (arith, e, m)) ∙ r.done i m
-    | inr m ↦ (let e : i ≡ n = omega arith in rw e (get_or-set_same now n _ 0 h ∙ add_comm (get_or now n 0) unit ∙ ap (λ x. unit + x) (r.rest n (omega arith))))
-  ];
-  rest = λ i l. get_or-set_other now n i _ 0 (λ e. omega (arith, e, l)) ∙ r.rest i (omega arith);
-}
-
--- raised all through, a list is its one block
-pub raised_block : (unit : ℕ) (old new : List ℕ) → length new ≡ length old → ((i : ℕ) → i < length old → get_or new i 0 ≡ unit + get_or old i 0) → new ≡ blocks unit old 1
-raised_block unit old new e h = ext_get_or 0 new (map (λ x. 1 * unit + x) old) (e ∙ sym (length-map old _)) (λ i l.
-    let m : i < length old = omega (arith, e, l) in
-    let u : unit ≡ 1 * unit = omega arith in
-    h i m ∙ ap (λ n. n + get_or old i 0) u ∙ sym (get_or-map (λ x. 1 * unit + x) old i 0 0 m))
-
-take_front : (n : ℕ) (xs ys : List ℕ) → n ≤ length xs → take n (xs ++ ys) ≡ take n xs
-take_front zero xs ys h = refl
-take_front (suc n) [] ys h = absurd (omega arith)
-take_front (suc n) (x ∷ xs) ys h = ap (λ zs. x ∷ zs) (take_front n xs ys (omega arith))
-
--- the first block at the head of several
-pub first_block : (unit : ℕ) (base : List ℕ) (d : ℕ) → take (length base) (blocks unit base (suc d)) ≡ map (λ x. 1 * unit + x) base
-first_block unit base zero =
-    ap (λ n. take n (map (λ x. 1 * unit + x) base)) (sym (length-map base (λ x. 1 * unit + x)))
-    ∙ ap (take (length (map (λ x. 1 * unit + x) base))) (sym (append-nil (map (λ x. 1 * unit + x) base)))
-    ∙ take-append_seam (map (λ x. 1 * unit + x) base) []
-first_block unit base (suc d) =
-    take_front (length base) (blocks unit base (suc d)) _ (omega (arith, length_blocks unit base (suc d), suc-mul d (length base))) ∙ first_block unit base d
-
--- the next block is the first by so many units more
-block_after : (unit : ℕ) (base : List ℕ) (d : ℕ) →
-    blocks unit base (suc d) ++ map (λ x. suc d * unit + x) (take (length base) (blocks unit base (suc d))) ≡ blocks unit base (suc (suc d))
-block_after unit base d =
-    ap (λ xs. blocks unit base (suc d) ++ map (λ x. suc d * unit + x) xs) (first_block unit base d)
-    ∙ ap (λ xs. blocks unit base (suc d) ++ xs) (map-map (λ x. suc d * unit + x) (λ x. 1 * unit + x) base ∙ ap (λ (f : ℕ → ℕ). map f base) (fun_ext (λ x. one_more x)))
-  where
-    one_more : (x : ℕ) → suc d * unit + (1 * unit + x) ≡ suc (suc d) * unit + x
-    one_more x = let e : suc (suc d) * unit ≡ suc d * unit + unit = suc-mul (suc d) unit in omega (arith, e)
-
-pub next_block : (unit : ℕ) (base : List ℕ) (d n : ℕ) → 1 ≤ d → n ≡ length base →
-    blocks unit base d ++ map (λ x. d * unit + x) (take n (blocks unit base d)) ≡ blocks unit base (d + 1)
-next_block unit base zero n h e = absurd (omega arith)
-next_block unit base (suc d) n h e =
-    let s : suc (suc d) ≡ suc d + 1 = omega arith in
-    ap (λ i. blocks unit base (suc d) ++ map (λ x. suc d * unit + x) (take i (blocks unit base (suc d)))) e ∙ block_after unit base d ∙ ap (blocks unit base) s
-
-pub block_many : (unit : ℕ) (base : List ℕ) (d : ℕ) → 1 ≤ d → length base ≤ length (blocks unit base d)
-block_many unit base d h = omega (arith, length_blocks unit base d, mul-le-mul_right (length base) h, one-mul (length base))
 
 -- what a phase adds fits 32 bits
 module _ (k p u : ℕ) (before : List ℕ) (few : k ≤ 4) (phase : p < 8) (e : u ≡ 2 ^ (width * p)) (listed : before ≡ promises p k) where

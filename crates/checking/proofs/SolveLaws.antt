@@ -1,8 +1,8 @@
 -- From a settled ranking and its written record to the answer of solving.
-use Rattle.std.proofs.Common.{◌≡◌, ℕ, zero, suc, ◌+◌, ◌*◌, ◌/◌, ◌%◌, ◌<◌, ◌≤◌, true, false, ◌&&◌, ltb, ◌⊎◌, List, length, drop, vec_items, None, Ok, get_or, refl, sym, ap, ◌∙◌, subst, inl, inr, arith}
+use Rattle.std.proofs.Common.{◌≡◌, ℕ, zero, suc, ◌+◌, ◌*◌, ◌/◌, ◌%◌, ◌<◌, ◌≤◌, true, false, not, ◌&&◌, ltb, eqb, ◌⊎◌, List, length, drop, vec_items, None, Ok, get_or, refl, sym, ap, ◌∙◌, subst, inl, inr, arith}
 use mathlib.Core.Path.{fun_ext}
 use Rattle.std.proofs.lemmas.List.{get_or-take, get_or-drop}
-use Rattle.std.proofs.lemmas.Bool.{cases_lt, lt-ltb, le-ltb, eq-eqb, cond-false}
+use Rattle.std.proofs.lemmas.Bool.{cases_lt, lt-ltb, le-ltb, eq-eqb, eqb-true, eqb-false, not-true, not-false, cond-false}
 use Rattle.std.proofs.lemmas.Nat.{div_below, mod_below, div-add-mod'}
 use Rattle.reading.specs.Bytes.{byte, pair}
 use Rattle.reading.specs.Records.{parts_in, size_in, inside, choice_at, rank_at, bound_of, Lawful}
@@ -160,13 +160,17 @@ module _ (m : Model) (k : Marks) (t : PhaseTable) (d : Deal) (side : ℕ) (w : L
     pub lawful_written : (xs : List ℕ) → Wrote (snap_arena z t d side) r xs → Lawful xs
     lawful_written xs wr = lawful_xs m k t d side w (suits_from m t d side sized) r b st old xs size (over (λ a. Wrote a r xs) wr)
 
-    -- by the entry that was read at the start
-    module _ (n : ℕ) (e : Entry) (es : n ≡ z.frame.start) (en : e ≡ get_or (vec_items r.entries) (n * 8 + 0) absent) where
-      start_rank : ranks_in (arena m k t d side) r m.start 0 ≡ e.rank
-      start_rank = rank_read (arena m k t d side) b m.start 0 b.starts b.some_phase r e (en ∙ ap (λ i. get_or (vec_items r.entries) (i * 8 + 0) absent) (es ∙ taken.start))
+    -- by the entry of the start
+    abbrev entry : Entry
+    entry = get_or (vec_items r.entries) (z.frame.start * 8 + 0) absent
 
-      pub none_found : e.rank ≡ 65535 → Refused m k t d side old 23
-      none_found h = inr (head_none m k t d side (length old) (suits_from m t d side sized) size, refl, nothing_controls m k t d side w (suits_from m t d side sized) r b st (omega (arith, h, start_rank)))
+    start_rank : ranks_in (arena m k t d side) r m.start 0 ≡ entry.rank
+    start_rank = rank_read (arena m k t d side) b m.start 0 b.starts b.some_phase r entry (ap (λ i. get_or (vec_items r.entries) (i * 8 + 0) absent) taken.start)
 
-      pub written_found : (e.rank ≡ 65535 → ⊥) → (xs : List ℕ) → Wrote (snap_arena z t d side) r xs → (bound : ℕ) → bound ≡ bound_of (parts_in xs) → Found m k t d side old xs bound
-      written_found h xs wr bound q = found m k t d side w (suits_from m t d side sized) r b st old xs size (over (λ a. Wrote a r xs) wr) bound q (omega (arith, h, start_rank, (st.shaped m.start 0).capped))
+    pub none_found : not (eqb entry.rank 65535) ≡ false → Refused m k t d side old 23
+    none_found h =
+        inr (head_none m k t d side (length old) (suits_from m t d side sized) size, refl, nothing_controls m k t d side w (suits_from m t d side sized) r b st (omega (arith, eqb-true _ _ (not-false _ h), start_rank)))
+
+    pub written_found : not (eqb entry.rank 65535) ≡ true → (xs : List ℕ) → Wrote (snap_arena z t d side) r xs → (bound : ℕ) → bound ≡ bound_of (parts_in xs) → Found m k t d side old xs bound
+    written_found h xs wr bound q =
+        found m k t d side w (suits_from m t d side sized) r b st old xs size (over (λ a. Wrote a r xs) wr) bound q (omega (arith, eqb-false _ _ (not-true _ h), start_rank, (st.shaped m.start 0).capped))

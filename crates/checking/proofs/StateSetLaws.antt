@@ -164,28 +164,9 @@ lowest_some x f l n =
     }
 
 module _ (x : StateSet) (from : ℕ) where
-  pub first_low : (k : ℕ) → FirstFrom (bit x.low) from 128 k → FirstFrom (member x) from 256 k
-  first_low k w = record {
-    low = w.low;
-    high = omega (arith, w.high);
-    here = cond-true _ _ _ (lt-ltb k 128 w.high) ∙ w.here;
-    before = λ i le lt. cond-true _ _ _ (lt-ltb i 128 (omega (arith, w.high))) ∙ w.before i le lt;
-  }
-
   -- none in the low word
   abbrev pub LowNone : Type 0
   LowNone = (i : ℕ) → from ≤ i → i < 128 → bit x.low i ≡ false
-
-  pub first_high : (k : ℕ) → LowNone → FirstFrom (bit x.high) (from - 128) 128 k → FirstFrom (member x) from 256 (k + 128)
-  first_high k none w = record {
-    low = omega (arith, w.low);
-    high = omega (arith, w.high);
-    here = cond-false _ _ _ (le-ltb (k + 128) 128 (omega arith)) ∙ (let e : k + 128 - 128 ≡ k = omega arith in ap (bit x.high) e) ∙ w.here;
-    before = λ i le lt. elim (cases_lt i 128) [
-      | inl l ↦ cond-true _ _ _ (lt-ltb i 128 l) ∙ none i le l
-      | inr l ↦ cond-false _ _ _ (le-ltb i 128 l) ∙ w.before (i - 128) (omega arith) (omega arith)
-    ];
-  }
 
   pub first_none : LowNone → ((i : ℕ) → from - 128 ≤ i → bit x.high i ≡ false) → (t : ℕ) → from ≤ t → member x t ≡ false
   first_none none high t le = elim (cases_lt t 128) [

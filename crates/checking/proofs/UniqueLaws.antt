@@ -1,5 +1,5 @@
 -- There is one solved plan, and one record that holds it.
-use Rattle.std.proofs.Common.{◌≡◌, ℕ, zero, suc, ◌+◌, ◌-◌, ◌*◌, ◌/◌, ◌%◌, ◌<◌, ◌≤◌, true, ◌⊎◌, List, length, drop, sym, ap, ◌∙◌, inl, inr, mul_comm, arith}
+use Rattle.std.proofs.Common.{◌≡◌, ℕ, zero, suc, ◌+◌, ◌-◌, ◌*◌, ◌/◌, ◌%◌, ◌<◌, ◌≤◌, true, ◌⊎◌, List, length, drop, sym, ap, ◌∙◌, subst, inl, inr, mul_comm, arith}
 use Rattle.std.proofs.lemmas.List.{get_or-take, get_or-drop, ext_get_or}
 use Rattle.std.proofs.lemmas.Bool.{cases_lt, cases_eq, lt-ltb, and_from, cond-true}
 use Rattle.std.proofs.lemmas.Nat.{mul-add-lt, div_below, mod_below, div-add-mod'}
@@ -84,27 +84,19 @@ module _ (xs ys : List ℕ) (lx : AllBelow 256 xs) (ly : AllBelow 256 ys) (n : p
   same_size : size_in xs ≡ size_in ys
   same_size = ap (λ i. i * byte xs 2) n ∙ ap (λ i. pair ys 0 * i) q
 
+  -- what holds by position holds by index
+  by_position : (F : ℕ → Type 0) → ((s p : ℕ) → s < pair xs 0 → p < byte xs 2 → F (s * byte xs 2 + p)) → (j : ℕ) → j < size_in xs → F j
+  by_position F f j h =
+      subst F (div-add-mod' j (byte xs 2)) (f (j / byte xs 2) (j % byte xs 2) (div_below j (byte xs 2) (pair xs 0) some h) (mod_below j (byte xs 2) some))
+
   at_choice : (j : ℕ) → j < size_in xs → byte xs (4 + j) ≡ byte ys (4 + j)
-  at_choice j h =
-      let s = j / byte xs 2 in
-      let p = j % byte xs 2 in
-      let hs : s < pair xs 0 = div_below j (byte xs 2) (pair xs 0) some h in
-      let hp : p < byte xs 2 = mod_below j (byte xs 2) some in
-      let e : s * byte xs 2 + p ≡ j = div-add-mod' j (byte xs 2) in
-      let e' : s * byte ys 2 + p ≡ j = ap (λ i. s * i + p) (sym q) ∙ e in
-      ap (λ i. byte xs (4 + i)) (sym e) ∙ sym (choice_byte xs s p hs hp) ∙ (same s p).0
-      ∙ choice_byte ys s p (omega (arith, hs, n)) (omega (arith, hp, q)) ∙ ap (λ i. byte ys (4 + i)) e'
+  at_choice = by_position (λ (j : ℕ). byte xs (4 + j) ≡ byte ys (4 + j)) (λ s p hs hp.
+      sym (choice_byte xs s p hs hp) ∙ (same s p).0 ∙ choice_byte ys s p (omega (arith, hs, n)) (omega (arith, hp, q)) ∙ ap (λ i. byte ys (4 + (s * i + p))) (sym q))
 
   at_rank : (j : ℕ) → j < size_in xs → pair xs (4 + size_in xs + 2 * j) ≡ pair ys (4 + size_in xs + 2 * j)
-  at_rank j h =
-      let s = j / byte xs 2 in
-      let p = j % byte xs 2 in
-      let hs : s < pair xs 0 = div_below j (byte xs 2) (pair xs 0) some h in
-      let hp : p < byte xs 2 = mod_below j (byte xs 2) some in
-      let e : s * byte xs 2 + p ≡ j = div-add-mod' j (byte xs 2) in
-      let e' : s * byte ys 2 + p ≡ j = ap (λ i. s * i + p) (sym q) ∙ e in
-      ap (λ i. pair xs (4 + size_in xs + 2 * i)) (sym e) ∙ sym (rank_pair xs s p hs hp) ∙ (same s p).1
-      ∙ rank_pair ys s p (omega (arith, hs, n)) (omega (arith, hp, q)) ∙ ap (λ i. pair ys (4 + size_in ys + 2 * i)) e' ∙ ap (λ i. pair ys (4 + i + 2 * j)) (sym same_size)
+  at_rank = by_position (λ (j : ℕ). pair xs (4 + size_in xs + 2 * j) ≡ pair ys (4 + size_in xs + 2 * j)) (λ s p hs hp.
+      sym (rank_pair xs s p hs hp) ∙ (same s p).1 ∙ rank_pair ys s p (omega (arith, hs, n)) (omega (arith, hp, q))
+      ∙ ap (λ i. pair ys (4 + size_in ys + 2 * (s * i + p))) (sym q) ∙ ap (λ i. pair ys (4 + i + 2 * (s * byte xs 2 + p))) (sym same_size))
 
   at_byte : (i : ℕ) → i < 4 + 3 * size_in xs → byte xs i ≡ byte ys i
   at_byte i h = elim (cases_lt i 4) [

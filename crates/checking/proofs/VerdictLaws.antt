@@ -25,14 +25,17 @@ use Rattle.checking.specs.Verdicts.{Verdict, Knows, Within, Ordered, upward, Onw
 
 -- a settled ranking has a rank at the start exactly if there is a controller
 pub controls_by : (z : Snapshot) (t : PhaseTable) (d : Deal) (side : ℕ) (r : Ranking) → Stable (snap_arena z t d side) (ranks_in (snap_arena z t d side) r) (choices_in (snap_arena z t d side) r) →
-    (n : ℕ) (e : Entry) → n ≡ z.frame.start → e ≡ get_or (vec_items r.entries) (n * 8 + 0) absent → Decides (not (eqb e.rank 65535)) (Controlled (snap_arena z t d side))
-controls_by z t d side r st n e es en = (yes, λ y. no y (cases_eq e.rank 65535))
+    Decides (not (eqb (get_or (vec_items r.entries) (z.frame.start * 8 + 0) absent).rank 65535)) (Controlled (snap_arena z t d side))
+controls_by z t d side r st = (yes, λ y. no y (cases_eq e.rank 65535))
   where
     a : Arena
     a = snap_arena z t d side
 
+    e : Entry
+    e = get_or (vec_items r.entries) (z.frame.start * 8 + 0) absent
+
     rank : ranks_in a r a.start 0 ≡ e.rank
-    rank = let b = snap_bounded z t d side in rank_read a b a.start 0 b.starts b.some_phase r e (en ∙ ap (λ i. get_or (vec_items r.entries) (i * 8 + 0) absent) es)
+    rank = let b = snap_bounded z t d side in rank_read a b a.start 0 b.starts b.some_phase r e refl
 
     yes : not (eqb e.rank 65535) ≡ true → Controlled a
     yes h =

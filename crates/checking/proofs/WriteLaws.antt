@@ -1,5 +1,5 @@
 -- What is written of a record on the way.
-use Rattle.std.proofs.Common.{◌≡◌, ℕ, ◌+◌, ◌*◌, ◌/◌, ◌%◌, ◌<◌, List, length, vec_items, sym, ap, subst, ◌∙◌, inl, inr, mul_comm, arith}
+use Rattle.std.proofs.Common.{◌≡◌, ℕ, ◌+◌, ◌*◌, ◌/◌, ◌%◌, ◌<◌, List, vec_items, sym, ap, subst, ◌∙◌, inl, inr, mul_comm, arith}
 use Rattle.std.proofs.lemmas.Bool.{cases_eq}
 use Rattle.std.proofs.lemmas.Nat.{mul-add-lt, div-mul-add, mod-mul-add}
 use Rattle.reading.specs.Bytes.{byte, pair}
@@ -7,7 +7,7 @@ use Rattle.reading.specs.Limits.{AllBelow}
 use Rattle.checking.specs.declared.ranking.Entry.{Entry}
 use Rattle.checking.specs.declared.ranking.Ranking.{Ranking}
 use Rattle.checking.specs.Arenas.{Arena}
-use Rattle.checking.specs.Solving.{Bounded, held, Holds, Wrote}
+use Rattle.checking.specs.Solving.{held, Holds}
 
 -- the head is written, and the entries of the places below k
 pub record Writing (a : Arena) (z : Ranking) (xs : List ℕ) (k : ℕ) : Type 0 where
@@ -45,14 +45,3 @@ module _ (a : Arena) (z : Ranking) where
   writing_at xs ys n k s p en ek v ev hs hp w head here others bytes =
       let q : s * a.phases + (p + 1) ≡ s * a.phases + p + 1 = omega arith in
       rw q (writing_next xs ys s p hs hp w head (subst (Holds ys (a.states * a.phases) (s * a.phases + p)) ev (rw (en, ek) at here)) (rw (en, ek) at others) bytes)
-
-  pub writing_done : Bounded a → (xs : List ℕ) → length xs ≡ 4 + 3 * (a.states * a.phases) → Writing a z xs (a.states * a.phases) → Wrote a z xs
-  writing_done b xs long w = record {
-    bytes = w.bytes (omega (arith, place_low 0 0 (omega (arith, b.starts)) b.some_phase));
-    long = long;
-    states = w.states;
-    phases = w.phases;
-    signals = w.signals;
-    choice = λ s p hs hp. (w.entries s p hs hp (place_low s p hs hp)).choice;
-    rank = λ s p hs hp. (w.entries s p hs hp (place_low s p hs hp)).rank;
-  }

@@ -12,6 +12,7 @@ pub record Plan : Type 0 where
 abbrev pub plan_of : Parts → Plan
 plan_of r = record { choice = choice_at r; rank = rank_at r }
 
+-- the plan of the record that bytes hold
 abbrev pub plan_in : List ℕ → Plan
 plan_in xs = plan_of (parts_in xs)
 

@@ -21,6 +21,7 @@ pub record Refusal : Type 0 where
 abbrev pub none : ℕ
 none = 65535
 
+-- a refusal that holds no fault of reading: number, state, phase, partner signal, next state
 abbrev pub refusal : ℕ → ℕ → ℕ → ℕ → ℕ → Refusal
 refusal n s p b t = record { number = n; state = s; phase = p; partner = b; next = t; reading = None }
 

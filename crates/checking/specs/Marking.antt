@@ -11,10 +11,11 @@ use Rattle.checking.specs.declared.reach.Marks.{Marks}
 use Rattle.checking.specs.Arenas.{promised, relied, follow}
 use Rattle.checking.specs.Reach.{Reached}
 
--- how often a mark can still change, and all marks of a list
+-- how often a mark can still change
 abbrev pub left : ℕ → ℕ
 left x = cond (nat_eq x 0) 2 (cond (nat_eq x 1) 0 1)
 
+-- the same of all marks of a list
 abbrev pub all_left : List ℕ → ℕ
 all_left xs = sum_by left xs
 

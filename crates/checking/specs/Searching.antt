@@ -35,6 +35,7 @@ pairs (x ∷ xs) ys = map (both x) ys ++ pairs xs ys
 abbrev pub candidates : Sizes → List (Sides ℕ)
 candidates z = pairs (promises z.phases z.signals.first) (promises z.phases z.signals.second)
 
+-- the number of candidates
 abbrev pub how_many : Sizes → ℕ
 how_many z = length (candidates z)
 
@@ -55,7 +56,7 @@ pub record Workable (m : Sides Model) (k : Sides Marks) (t : PhaseTable) (d : De
 abbrev pub NoneBefore : Sides Model → Sides Marks → PhaseTable → ℕ → Type 0
 NoneBefore m k t n = (i : ℕ) (d : Deal) → i < n → i < how_many t.sizes → Dealt t.sizes (terms_of (candidate t.sizes i)) d → Workable m k t d → ⊥
 
--- the number of each refusal of searching, and the tries that it carries; every promise about them reads this definition
+-- the number of each refusal of searching; every promise about them reads this definition and the next
 abbrev pub search_number : SearchFault → ℕ
 search_number fault.Sizes = 10
 search_number fault.Allowance = 24
@@ -63,6 +64,7 @@ search_number fault.TooMany = 25
 search_number (fault.Untried tries) = 26
 search_number (fault.NoDeal tries) = 27
 
+-- the tries that a refusal carries
 abbrev pub search_tries : SearchFault → Option ℕ
 search_tries fault.Sizes = None
 search_tries fault.Allowance = None

@@ -10,20 +10,23 @@ use Rattle.checking.specs.StateSets.{member}
 use Rattle.checking.specs.Sources.{rows_move}
 use Rattle.checking.specs.Arenas.{Arena, promised, relied, follow}
 
--- a state out of range is forbidden and no goal
+-- whether a set of forbidden states of n has a state; one out of range is forbidden
 abbrev pub set_forbidden : ℕ → StateSet → ℕ → Bool
 set_forbidden n set s = nat_le n s || member set s
 
+-- whether a set of goals has it; one out of range is no goal
 abbrev pub set_goal : ℕ → StateSet → ℕ → Bool
 set_goal n set s = nat_lt s n && member set s
 
--- a move, a forbidden state and a goal, as the snapshot has them
+-- whether a move is possible, as the snapshot has it
 abbrev pub snap_move : Snapshot → ℕ → ℕ → ℕ → ℕ → Bool
 snap_move z = rows_move z.frame.states (vec_items z.rows)
 
+-- whether a state is forbidden there
 abbrev pub snap_forbidden : Snapshot → ℕ → Bool
 snap_forbidden z = set_forbidden z.frame.states z.forbidden
 
+-- whether it is a goal there
 abbrev pub snap_goal : Snapshot → ℕ → Bool
 snap_goal z = set_goal z.frame.states z.goals
 
@@ -53,5 +56,6 @@ snap_arena z t d side = record {
   goal = snap_goal z;
 }
 
+-- what is played from a seat with a snapshot
 abbrev pub played : Seat Snapshot → Arena
 played y = snap_arena y.game.now y.table.now y.deal.now y.side

@@ -105,9 +105,11 @@ absent = record { rank = 65535; choice = 255 }
 unfoldable pub held : Arena → List Entry → ℕ → ℕ → Entry
 held a l s p = cond (nat_lt s a.states) (cond (nat_lt p a.phases) (slice_index_or l (s * 8 + p) absent) absent) absent
 
+-- the ranks that a ranking holds
 abbrev pub ranks_in : Arena → Ranking → ℕ → ℕ → ℕ
 ranks_in a z s p = (held a (vec_items z.entries) s p).rank
 
+-- the choices that it holds
 abbrev pub choices_in : Arena → Ranking → ℕ → ℕ → ℕ
 choices_in a z s p = (held a (vec_items z.entries) s p).choice
 
@@ -182,18 +184,20 @@ pub record Pruning (a : Arena) (old z : Ranking) (p s : ℕ) : Type 0 where
   pub rest : (t q : ℕ) → (ranks_in a old t q ≢ 0) → (ranks_in a z t q ≡ ranks_in a old t q) × (choices_in a z t q ≡ choices_in a old t q)
   pub onward : Before a p s (λ t q. ranks_in a z t q ≡ 0 → Lowest a (ranks_in a old) t q 65535 (choices_in a z t q))
 
--- a target gets the lowest signal that leads into the ranked sets, or is given up if none does
+-- a target gets the lowest signal that leads into the ranked sets
 pub record Chosen (a : Arena) (old new : Ranking) (s p : ℕ) : Type 0 where
   pub own : ℕ
   pub first : First a old.ranked s p own
   pub written : Written a old new s p 0 own
   pub zeros : zeros new ≤ zeros old
 
+-- a target is given up, where no signal leads there
 pub record Dropped (a : Arena) (old new : Ranking) (s p : ℕ) : Type 0 where
   pub stuck : (x : ℕ) → Leading a old.ranked s p x → ⊥
   pub written : Written a old new s p 65535 255
   pub zeros : ranks_in a old s p ≡ 0 → zeros new < zeros old
 
+-- one or the other, by whether it was given up
 abbrev pub Renewed : Arena → Ranking → Ranking → ℕ → ℕ → Bool → Type 0
 Renewed a old new s p false = (new.ranked ≡ old.ranked) × (ranks_in a old s p ≡ 0 → Chosen a old new s p)
 Renewed a old new s p true = (new.ranked ≡ old.ranked) × Dropped a old new s p

@@ -48,11 +48,12 @@ pub record Onward (t : PhaseTable) (old new : Seeker) : Type 0 where
   pub first : new.first.snapshot ≡ old.first.snapshot
   pub second : new.second.snapshot ≡ old.second.snapshot
 
--- both sides have controllers at a candidate, or one of them has none
+-- both sides have controllers at a candidate
 pub record BothWin (y : Seeker) (t : PhaseTable) (c : Sides ℕ) : Type 0 where
   pub first : Verdict y.first.snapshot t 0 c (Some true)
   pub second : Verdict y.second.snapshot t 1 c (Some true)
 
+-- one of the sides has no controller at a candidate
 abbrev pub OneFails : Seeker → PhaseTable → Sides ℕ → Type 0
 OneFails y t c = Verdict y.first.snapshot t 0 c (Some false) ⊎ Verdict y.second.snapshot t 1 c (Some false)
 

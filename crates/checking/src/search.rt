@@ -3,7 +3,7 @@ mod player;
 mod promises;
 mod seek;
 
-ghost use Rattle.std.specs.Prelude.{◌≡◌, ◌≤◌, true, length, nat_le};
+ghost use Rattle.std.specs.Prelude.{◌≡◌, ◌≤◌, true, length, nat_le, vec_len, IfOk};
 ghost use Rattle.checking.specs.Searching.{both, how_many, meet, promises as promises_of, Searches};
 
 use crate::faults::SearchFault;
@@ -37,7 +37,11 @@ pub struct SearchWorkspace {
 
 impl SearchWorkspace {
     /// Room for the largest games and the most candidates.
-    pub fn new(heap: Global) -> Result<SearchWorkspace, AllocError> {
+    pub fn new(heap: Global) -> Result<SearchWorkspace, AllocError>
+        ensures games { IfOk result (λ w. (vec_len w.seeker.first.snapshot.rows ≡ 256) × (vec_len w.seeker.second.snapshot.rows ≡ 256)) }
+        ensures positions { IfOk result (λ w. vec_len w.seeker.ranking.entries ≡ 2048) }
+        ensures candidates { IfOk result (λ w. (vec_len w.seeker.first.verdicts ≡ 65535) × (vec_len w.seeker.second.verdicts ≡ 65535)) }
+    {
         Ok(SearchWorkspace {
             promises: Sides {
                 first: Promises::new(heap)?,

@@ -9,7 +9,7 @@ use games::deal::Deal;
 use games::machine::{Game, Machine};
 use reading::faults::check;
 use reading::phase_table::PhaseTable;
-use reading::records::{NO_RANK, Position, Record, length};
+use reading::records::{Record, length};
 use std::alloc::{AllocError, Global};
 
 /// Room for a solver, made once for games of any size; solving itself takes no memory.
@@ -59,11 +59,7 @@ pub fn solve<G: Game>(
         side,
     };
     workspace.ranking.settle(&played);
-    let start = Position {
-        state: workspace.snapshot.start(),
-        phase: 0,
-    };
-    let kept = workspace.ranking.entry(start).rank != NO_RANK;
+    let kept = workspace.ranking.ranks_start(&workspace.snapshot);
     check(kept, SolveFault::NoController)?;
     workspace.ranking.write(&played, buffer);
     // what was written can be read

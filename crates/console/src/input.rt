@@ -1,5 +1,6 @@
 ghost use Rattle.std.specs.Prelude.{◌≡◌, IfOk, IfSome, take, vec_items};
 
+use anyhow::{Context, Result};
 use std::alloc::Global;
 use std::fs;
 use std::io::{self, Read};
@@ -20,7 +21,8 @@ pub fn read_input<R: Read + Drop>(heap: Global, from: R, most: u64) -> io::Resul
     Ok(bytes)
 }
 
-/// What a sheet's or a record's file has; no clause can say what that is.
-pub fn read_sheet<F: Files>(files: &F, heap: Global, path: &str) -> io::Result<Vec<u8>> {
-    read_input(heap, fs::open(files, path)?, SHEET_LIMIT)
+/// What a sheet's or a record's file has; no clause can say what that is. An error names the file.
+pub fn read_sheet<F: Files>(files: &F, heap: Global, path: &str) -> Result<Vec<u8>> {
+    let file = fs::open(files, path).context(format_args!("{path} cannot be opened"))?;
+    read_input(heap, file, SHEET_LIMIT).context(format_args!("{path} cannot be read"))
 }

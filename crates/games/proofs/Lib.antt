@@ -3,4 +3,5 @@ mod LiftExamples
 pub mod SetLaws
 pub mod DealLaws
 mod DealExamples
+mod MachineExamples
 pub mod SearchLaws

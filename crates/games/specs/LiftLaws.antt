@@ -13,7 +13,7 @@ unlabelled : (F s : ℕ) → 2 ≤ F → 2 * F ≤ s → lift_label F s ≡ 0
 unlabelled F s l h = grind (arith, nat_tests)
 
 -- a possible move has its numbers in range
-inside : (n k m s a b t : ℕ) (x : Bool) → (in_range n k m s a b t && x) ≡ true → (s < n) × (a < k) × (b < m) × (t < n)
+pub inside : (n k m s a b t : ℕ) (x : Bool) → (in_range n k m s a b t && x) ≡ true → (s < n) × (a < k) × (b < m) × (t < n)
 inside n k m s a b t x e =
     let h = (and_parts (in_range n k m s a b t) x e).0 in
     let p = and_parts (nat_lt s n && nat_lt t n) (nat_lt a k && nat_lt b m) h in
@@ -21,6 +21,7 @@ inside n k m s a b t x e =
     let r = and_parts (nat_lt a k) (nat_lt b m) p.1 in
     (ltb-true s n q.0, ltb-true a k r.0, ltb-true b m r.1, ltb-true t n q.1)
 
+-- a lift is a lawful machine
 pub lift_lawful : (F m : ℕ) → 2 ≤ F → F ≤ 32 → 2 ≤ m → m ≤ 4 → Lawful (lift F m)
 lift_lawful F m f1 f2 m1 m2 = record {
   some_states = omega arith;
@@ -82,6 +83,7 @@ ranged n k m s a b t hs ha hb ht =
     (and_from (nat_lt s n) (nat_lt t n) (lt-ltb s n hs) (lt-ltb t n ht))
     (and_from (nat_lt a k) (nat_lt b m) (lt-ltb a k ha) (lt-ltb b m hb))
 
+-- the test of a move says that there is a step
 pub lift_steps : (F m : ℕ) → Steps F m
 lift_steps F m f l a b g k hf hl ha hb hg hk =
     let r = in_range (2 * F) 4 m (state f l) a b (state g k) in

@@ -6,6 +6,7 @@ use Rattle.reading.specs.Bytes.{byte}
 use Rattle.reading.specs.MachineSheets.{Sheet, sheet_in, key_at, target_at, before}
 use Rattle.games.specs.Machines.{Model, in_range}
 
+-- sizes, start, labels and moves, one behind the other
 pub record Listing : Type 0 where
   pub states : ℕ
   pub own : ℕ
@@ -18,6 +19,7 @@ pub record Listing : Type 0 where
 abbrev pub move_at : Sheet → ℕ → Move
 move_at s i = record { key = key_at s i; target = target_at s i }
 
+-- what a machine sheet lists
 abbrev pub listing_of : Sheet → Listing
 listing_of s = record {
   states = s.states;

@@ -32,9 +32,10 @@ pub record Marks : Type 0 where
   pub forbidden : ℕ → Bool
   pub goal : ℕ → Bool
 
--- a state out of range is forbidden and no goal, whatever the marks
+-- whether a state is forbidden in a game; a state out of range is, and is no goal, whatever the marks
 abbrev pub forbidden_in : Model → Marks → ℕ → Bool
 forbidden_in m k s = nat_le m.states s || k.forbidden s
 
+-- whether a state is a goal of a game
 abbrev pub goal_in : Model → Marks → ℕ → Bool
 goal_in m k s = nat_lt s m.states && k.goal s

@@ -17,6 +17,7 @@ pub record Sound (a : Automaton) : Type 0 where
   pub starts : a.start < a.states
   pub closed : AllBelow a.states a.next
 
+-- the blank automaton has them
 pub blank_sound : Sound blank
 blank_sound = record { some_states = omega arith; few_states = omega arith; starts = omega arith; closed = zeros_below 64 1 (omega arith) }
 
@@ -25,6 +26,7 @@ next_below : (a : Automaton) → Sound a → (q l : ℕ) → next_state a q l < 
 next_below a w q l = cond_both (nat_lt q a.states && nat_lt l 8) _ 0 (λ x. x < a.states) (λ e. w.closed (8 * q + l)) (λ e. omega (arith, w.some_states))
 
 module _ (m : Model) (a : Automaton) (w : Lawful m) (u : Sound a) where
+  -- a product that is small enough is a lawful machine
   product_lawful : m.states * a.states ≤ 256 → Lawful (product m a)
   product_lawful small = record {
     some_states = mul-le 1 1 m.states a.states w.some_states u.some_states;
@@ -45,6 +47,7 @@ module _ (m : Model) (a : Automaton) (w : Lawful m) (u : Sound a) where
       whole : (s : ℕ) → s / a.states < m.states → s < m.states * a.states
       whole s h = omega (arith, inside (s / a.states) (s % a.states) h (mod_below s a.states u.some_states), div-add-mod' s a.states)
 
+-- a watched machine is lawful
 pub watched_lawful : (m : Model) (a : Automaton) → Lawful m → Sound a → Lawful (watched m a)
 watched_lawful m a w u = go (nat_le (m.states * a.states) 256) refl
   where

@@ -4,6 +4,7 @@ use Rattle.games.specs.declared.sheet_machine.SheetMachine.{SheetMachine}
 use Rattle.games.specs.Machines.{Model}
 use Rattle.games.specs.Listings.{Listing, listed_model}
 
+-- the list that a sheet machine holds
 abbrev pub held : SheetMachine → Listing
 held x = record {
   states = x.frame.states;
@@ -14,5 +15,6 @@ held x = record {
   moves = vec_items x.moves;
 }
 
+-- the machine that it means
 abbrev pub machine_of : SheetMachine → Model
 machine_of x = listed_model (held x)

@@ -19,9 +19,11 @@ pub record Blame : Type 0 where
   pub rule : Bool
   pub fault : Fault
 
+-- a fault of the machine sheet
 abbrev pub in_machine : Fault → Blame
 in_machine f = record { rule = false; fault = f }
 
+-- a fault of the rule sheet
 abbrev pub in_rule : Fault → Blame
 in_rule f = record { rule = true; fault = f }
 

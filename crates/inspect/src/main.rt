@@ -1,7 +1,7 @@
 // Says in words what a sheet, a product of two sheets, or a lift means.
 #![tactic(auto)]
 
-use anyhow::bail;
+use anyhow::{Context, bail};
 use console::input::{SHEET_LIMIT, read_input, read_sheet};
 use inspection::kinds::Request;
 use inspection::machines::{lift, product};
@@ -29,7 +29,9 @@ fn main(rt: HostRuntime) -> anyhow::Result<()> {
             product(heap, machine.as_slice(), rule.as_slice())?
         }
         [kind, floors, signals] if kind.as_str() == "lift" => {
-            lift(heap, floors.as_str().parse()?, signals.as_str().parse()?)?
+            let floors = floors.as_str().parse().context("F is no number")?;
+            let signals = signals.as_str().parse().context("M is no number")?;
+            lift(heap, floors, signals)?
         }
         words => match Request::parse(words) {
             Some(Request::Help) => return Ok(rt.print(USAGE)?),

@@ -1,1 +1,2 @@
 mod TallyLaws
+mod Examples

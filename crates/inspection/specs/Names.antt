@@ -33,6 +33,7 @@ Sized (Rule n) = Size n
 Sized Phases = Unit {0}
 Sized Record = Unit {0}
 
+-- what is asked for can be told
 abbrev pub Asked : Request → Type 0
 Asked Help = Unit {0}
 Asked (Sheet kind) = Sized kind

@@ -10,6 +10,7 @@ use Rattle.reading.specs.Records.{record_fault}
 use Rattle.inspection.specs.declared.kinds.Kind.{Kind}
 use Rattle.inspection.specs.declared.kinds.Kind.TheVariants.{Machine, Marks, Rule, Phases, Record}
 
+-- the first fault of a sheet of a kind
 abbrev pub kind_fault : Kind → List ℕ → Option Fault
 kind_fault Machine xs = machine_fault xs
 kind_fault (Marks n) xs = mark_fault n xs

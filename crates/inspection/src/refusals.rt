@@ -10,6 +10,7 @@ use crate::sheets::LIMIT;
 use reading::bytes::{byte_at, pair_at};
 use reading::faults::ReadFault;
 use reading::records::Position;
+use reading::words::Remedy;
 use std::alloc::{AllocError, Global};
 use std::fmt::{self, Formatter, Write};
 
@@ -186,7 +187,7 @@ impl Sentence<'_> {
     }
 }
 
-/// What is refused: the fault's number and place, then what is wrong there.
+/// What is refused: the fault's number and place, then what is wrong there and what to do.
 pub(crate) fn refusal<S: fmt::Display + Drop>(
     heap: Global,
     fault: ReadFault,
@@ -194,6 +195,6 @@ pub(crate) fn refusal<S: fmt::Display + Drop>(
 ) -> Result<String, AllocError>
     ensures { IfOk result (λ text. Refuses (numbers fault) (string_bytes text)) }
 {
-    let why = sentence.to_string(heap)?;
+    let why = format!(in heap; "{sentence} {}", Remedy(fault))?;
     format!(in heap; "{fault}\n{why}\n")
 }

@@ -1,1 +1,2 @@
 pub mod NegotiationLaws
+mod Examples

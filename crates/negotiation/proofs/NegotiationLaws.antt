@@ -1,6 +1,7 @@
 -- From a bay that was read and the search over its games to what is negotiated.
 use Rattle.std.proofs.Common.{◌≡◌, ℕ, true, List, length, None, Ok, Err, Result, IsOk, refl, sym, ap, ◌∙◌, subst, inl, inr, ◌≤◌, mul-le-mul, rules, arith}
 use Rattle.std.proofs.lemmas.Bool.{and_parts, eqb-true}
+use Rattle.reading.specs.Sides.{pick}
 use Rattle.reading.specs.RuleSheets.{Automaton, automaton_of}
 use Rattle.reading.specs.declared.phase_table.PhaseTable.{PhaseTable}
 use Rattle.reading.specs.declared.sides.Sides.{Sides}
@@ -43,30 +44,28 @@ module _ (m : Sides Model) (t : PhaseTable) (d : Deal) (n : ℕ) (head : search_
   met : meet m t.sizes ≡ true
   met = none_unless _ _ (none_left _ _ head)
 
+  -- either side's game, by its signals
+  side_suits : (x : Model) (side : ℕ) → side ≤ 1 → x.own ≡ pick side t.sizes.signals.first t.sizes.signals.second → x.partner ≡ pick side t.sizes.signals.second t.sizes.signals.first
+      → suits x t d side ≡ true
+  side_suits x side l own partner = suits_to x t d side (record {
+    there = l;
+    phases = ap (λ (z : Sizes). z.phases) (sym same);
+    signals0 = ap (λ (z : Sizes). z.signals.first) (sym same);
+    signals1 = ap (λ (z : Sizes). z.signals.second) (sym same);
+    own = own;
+    partner = partner;
+  })
+
   pub first_suits : suits m.first t d 0 ≡ true
   first_suits =
       let h = and_parts _ _ met in
-      let l = and_parts _ _ h.1 in
-      suits_to m.first t d 0 (record {
-        there = omega arith;
-        phases = ap (λ (z : Sizes). z.phases) (sym same);
-        signals0 = ap (λ (z : Sizes). z.signals.first) (sym same);
-        signals1 = ap (λ (z : Sizes). z.signals.second) (sym same);
-        own = eqb-true _ _ h.0;
-        partner = eqb-true _ _ l.0;
-      })
+      side_suits m.first 0 (omega arith) (eqb-true _ _ h.0) (eqb-true _ _ (and_parts _ _ h.1).0)
 
   pub second_suits : suits m.second t d 1 ≡ true
   second_suits =
+      let one : 1 ≤ 1 = omega arith in
       let h = and_parts _ _ (and_parts _ _ (and_parts _ _ met).1).1 in
-      suits_to m.second t d 1 (record {
-        there = omega arith;
-        phases = ap (λ (z : Sizes). z.phases) (sym same);
-        signals0 = ap (λ (z : Sizes). z.signals.first) (sym same);
-        signals1 = ap (λ (z : Sizes). z.signals.second) (sym same);
-        own = eqb-true _ _ h.0;
-        partner = eqb-true _ _ h.1;
-      })
+      side_suits m.second 1 one (eqb-true _ _ h.0) (eqb-true _ _ h.1)
 
 -- what holds of a bay's games holds of the machines and automata of its sheets
 of_sheets : (F : Sides Model → Sides Marks → Type 0) (m0 m1 n0 n1 : Model) (a0 a1 b0 b1 : Automaton) → m0 ≡ n0 → m1 ≡ n1 → a0 ≡ b0 → a1 ≡ b1 →

@@ -23,6 +23,7 @@ use Rattle.negotiation.specs.declared.refusals.Refusal.TheVariants.{Bay, Search}
 abbrev pub machines : Parts → Sides Model
 machines p = both (watched (sheet_model p.machine0) (automaton_in p.rule0)) (watched (sheet_model p.machine1) (automaton_in p.rule1))
 
+-- and its goals and forbidden states by it
 abbrev pub marks : Parts → Sides Marks
 marks p = both (watch_marks (sheet_model p.machine0) (automaton_in p.rule0)) (watch_marks (sheet_model p.machine1) (automaton_in p.rule1))
 

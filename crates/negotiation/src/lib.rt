@@ -5,3 +5,4 @@
 pub mod line;
 pub mod negotiator;
 pub mod refusals;
+pub mod words;

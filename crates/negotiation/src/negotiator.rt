@@ -1,4 +1,6 @@
-ghost use Rattle.std.specs.Prelude.{◌≡◌, true};
+ghost use Rattle.std.specs.Prelude.{◌≡◌, true, IfOk};
+ghost use Rattle.games.specs.Listings.{listed_model, parked};
+ghost use Rattle.games.specs.SheetMachines.{machine_of};
 ghost use Rattle.checking.specs.Arenas.{arena, suits};
 ghost use Rattle.checking.specs.Controllers.{Controlled};
 ghost use Rattle.checking.specs.Searching.{both};
@@ -13,15 +15,12 @@ use games::deal::Deal;
 use games::machine::{Game, Machine};
 use games::sheet_machine::SheetMachine;
 use reading::phase_table::PhaseTable;
-use reading::records::length;
+use reading::records::{LONGEST, length};
 use reading::sides::Sides;
 use std::alloc::{AllocError, Global};
 
 /// As many tries as a search can be allowed: there are never more candidates.
 const ALLOWANCE: u32 = 65_535;
-
-/// The longest record: of 256 states and 8 phases.
-const LONGEST: usize = 6_148;
 
 /// What both sides settle on: a promise each, on which the other relies; how many candidates were tried; and how many ticks, at most,
 /// each side's solved controller is from a goal.
@@ -90,7 +89,9 @@ fn settle<G: Game, H: Game>(
 
 impl Negotiator {
     /// Room for the largest bay.
-    pub fn new(heap: Global) -> Result<Negotiator, AllocError> {
+    pub fn new(heap: Global) -> Result<Negotiator, AllocError>
+        ensures { IfOk result (λ n. (machine_of n.machines.first ≡ listed_model parked) × (machine_of n.machines.second ≡ listed_model parked)) }
+    {
         Ok(Negotiator {
             machines: Sides {
                 first: SheetMachine::new(heap)?,

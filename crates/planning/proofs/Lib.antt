@@ -1,1 +1,3 @@
 pub mod PlanLaws
+mod Examples
+pub mod LineLaws

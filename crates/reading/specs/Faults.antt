@@ -10,6 +10,7 @@ pub record Fault : Type 0 where
   pub number : ℕ
   pub place : ℕ
 
+-- a fault by its number and its place
 abbrev pub fault : ℕ → ℕ → Fault
 fault n at = record { number = n; place = at }
 

@@ -42,17 +42,19 @@ sheet_of s = record {
   targets = s.targets.now;
 }
 
--- key and target of a move; a key is (s × k + own) × m + partner
+-- the key of a move: (s × k + own) × m + partner
 abbrev pub key_at : Sheet → ℕ → ℕ
 key_at s i = pair s.keys (2 * i)
 
+-- the state that a move leads to
 abbrev pub target_at : Sheet → ℕ → ℕ
 target_at s i = pair s.targets (2 * i)
 
--- where they stand in the sheet
+-- where its key stands in the sheet
 abbrev pub key_place : Sheet → ℕ → ℕ
 key_place s i = 8 + s.states + 2 * i
 
+-- and where that stands
 abbrev pub target_place : Sheet → ℕ → ℕ
 target_place s i = 8 + s.states + 2 * s.moves + 2 * i
 

@@ -6,6 +6,7 @@ use Rattle.reading.specs.Bytes.{byte, bit}
 abbrev pub marked : List ℕ → ℕ → Bool
 marked xs s = bit (byte xs (s / 8)) (s % 8)
 
+-- if the first holds, so does the second
 abbrev pub implies : Bool → Bool → Bool
 implies true y = y
 implies false y = true

@@ -37,13 +37,15 @@ parts_of r = record {
   ranks = r.ranks.now;
 }
 
--- choice and rank of state s in phase p, at position s × P + p; out of range they are those of a position that is not kept
+-- whether a record has a position for state s in phase p, which is s × P + p
 abbrev pub inside : Parts → ℕ → ℕ → Bool
 inside r s p = nat_lt s r.states && nat_lt p r.phases
 
+-- its choice; out of range that of a position that is not kept
 abbrev pub choice_at : Parts → ℕ → ℕ → ℕ
 choice_at r s p = cond (inside r s p) (byte r.choices (s * r.phases + p)) 255
 
+-- its rank, in the same way
 abbrev pub rank_at : Parts → ℕ → ℕ → ℕ
 rank_at r s p = cond (inside r s p) (pair r.ranks (2 * (s * r.phases + p))) 65535
 

@@ -42,10 +42,11 @@ blank = record { states = 1; accepting = 0; forbidden = 0; start = 0; next = rep
 abbrev pub next_state : Automaton → ℕ → ℕ → ℕ
 next_state a q label = cond (nat_lt q a.states && nat_lt label 8) (byte a.next (8 * q + label)) 0
 
--- whether a state is accepting, and whether a label is forbidden
+-- whether an automaton's state is accepting
 abbrev pub accepts : Automaton → ℕ → Bool
 accepts a q = nat_lt q 8 && bit a.accepting q
 
+-- whether a label is forbidden
 abbrev pub forbids : Automaton → ℕ → Bool
 forbids a label = nat_lt label 8 && bit a.forbidden label
 

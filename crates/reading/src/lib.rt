@@ -10,3 +10,4 @@ pub mod records;
 pub mod rule_sheet;
 pub mod sides;
 pub mod sizes;
+pub mod words;

@@ -10,6 +10,9 @@ pub const NO_CHOICE: u8 = 255;
 /// No rank, as the format writes it.
 pub const NO_RANK: u16 = 65_535;
 
+/// The longest record: of 256 states and 8 phases.
+pub const LONGEST: usize = 6_148;
+
 /// A controller record that was read: its sizes, and the parts of the bytes that hold choices and ranks.
 #[derive(Clone, Copy)]
 pub struct Record<'a> {

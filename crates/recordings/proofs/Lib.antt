@@ -2,3 +2,4 @@ pub mod MarkLaws
 pub mod AnswerLaws
 pub mod CountLaws
 pub mod RetellLaws
+mod Examples

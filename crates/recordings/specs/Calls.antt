@@ -15,10 +15,11 @@ use Rattle.recordings.specs.Damages.{Spot, spot}
 abbrev pub quad : List ℕ → ℕ → ℕ
 quad xs i = pair xs i + 65536 * pair xs (i + 2)
 
--- a part begins with its two-byte length: where it ends, and its bytes behind the length; bytes past the end of the input are 0
+-- a part begins with its two-byte length: where it ends; bytes past the end of the input are 0
 abbrev pub part_end : List ℕ → ℕ → ℕ
 part_end xs i = i + 2 + pair xs i
 
+-- the bytes of a part, behind its length
 abbrev pub part : List ℕ → ℕ → List ℕ
 part xs i = take (pair xs i) (drop (i + 2) xs)
 
@@ -34,13 +35,15 @@ pub data Said : Type 0 where
   report : Sides ℕ → Said
   ask : Question → Said
 
+-- a promise and a reliance, one behind the other
 abbrev pub terms_at : List ℕ → ℕ → Terms
 terms_at xs i = record { promise = quad xs i; reliance = quad xs (i + 4) }
 
--- an offer behind its first byte: phase table, four numbers of four bytes, both records; and where its second record begins
+-- where the second record of an offer begins: behind phase table, four numbers of four bytes, first record
 abbrev pub second_at : List ℕ → ℕ → ℕ
 second_at xs i = part_end xs (part_end xs i + 16)
 
+-- an offer behind its first byte: phase table, both sides' terms, both records
 abbrev pub offer_at : List ℕ → ℕ → Bidding
 offer_at xs i = record {
   table = part xs i;
@@ -78,10 +81,11 @@ Says xs i (offer b) = (byte xs i ≡ 1) × (b ≡ offer_at xs (i + 1))
 Says xs i (report r) = (byte xs i ≡ 2) × (r ≡ report_at xs (i + 1))
 Says xs i (ask q) = (byte xs i ≡ 3) × (question_in (byte xs (i + 1)) ≡ Some q)
 
--- an offer and a call as they were recorded
+-- an offer as it was recorded
 abbrev pub offer_said : OfferBytes → Bidding
 offer_said o = record { table = o.table.now; terms = o.terms; records = record { first = o.records.first.now; second = o.records.second.now } }
 
+-- a call as it was recorded
 abbrev pub call_said : RecordedCall → Said
 call_said (recorded.Offer o) = offer (offer_said o)
 call_said (recorded.Report r) = report r.states

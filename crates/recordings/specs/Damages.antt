@@ -11,6 +11,7 @@ pub record Spot : Type 0 where
   pub number : ℕ
   pub place : ℕ
 
+-- damage by its number and its place
 abbrev pub spot : ℕ → ℕ → Spot
 spot n at = record { number = n; place = at }
 

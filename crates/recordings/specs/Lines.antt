@@ -19,6 +19,7 @@ offer_refusal r = elim r.fault.reading [
       ++ (codes " " ++ (decimal r.fault.partner ++ (codes " " ++ decimal r.fault.next))))))))))
 ]
 
+-- a refusal of a report
 abbrev pub report_refusal : Refusal → List ℕ
 report_refusal r = codes "report refused " ++ (decimal r.fault.number ++ (codes " side " ++ decimal r.side))
 
@@ -44,13 +45,14 @@ unsigned_line r = cond (r.phase == none)
     (codes "unsigned " ++ (decimal r.number ++ (codes " side " ++ decimal r.side)))
     (codes "unsigned " ++ (decimal r.number ++ (codes " phase " ++ (decimal r.phase ++ (codes " side " ++ decimal r.side)))))
 
--- the line of a call, by what became of it and by the cell's answers from it on; and the answers that are left behind it
+-- the line of a call, by what became of it and by the cell's answers from it on
 abbrev pub line_of : Mark → List Told → List ℕ
 line_of Put [] = []
 line_of Put (a ∷ rest) = line a ++ codes "\n"
 line_of (Unread f) given = unread_line (read_numbers f) ++ codes "\n"
 line_of (Unsigned f) given = unsigned_line (sign_numbers f) ++ codes "\n"
 
+-- the answers that are left behind a call
 abbrev pub left : Mark → List Told → List Told
 left Put [] = []
 left Put (a ∷ rest) = rest

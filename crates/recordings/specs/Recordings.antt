@@ -23,10 +23,11 @@ use Rattle.recordings.specs.Calls.{part, part_end}
 use Rattle.recordings.specs.Marks.{Recorded, events, puts}
 use Rattle.recordings.specs.Lines.{lines}
 
--- an input begins with the two-byte length of its bay; the calls come behind
+-- an input begins with the two-byte length of its bay and the bay
 abbrev pub bay_in : List ℕ → List ℕ
 bay_in xs = part xs 0
 
+-- where the calls begin
 abbrev pub calls_at : List ℕ → ℕ
 calls_at xs = part_end xs 0
 

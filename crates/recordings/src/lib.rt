@@ -8,3 +8,4 @@ pub mod lines;
 mod parts;
 pub mod recording;
 pub mod replaying;
+pub mod words;

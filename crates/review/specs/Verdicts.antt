@@ -43,10 +43,11 @@ line (Check f) = check_line (check_numbers f)
 abbrev pub told : Result ℕ Refusal → Result ℕ (List ℕ)
 told = result_map_both (λ b. b) line
 
--- the refusal of the two sheets of a machine, and of both sides' terms on a table, in print
+-- the refusal of the two sheets of a machine, in print
 abbrev pub sheets_line : List ℕ → List ℕ → Option (List ℕ)
 sheets_line sheet rule = option_map (λ (b : Blame). printed b.fault) (sheets_fault sheet rule)
 
+-- the refusal of both sides' terms on a table, in print
 abbrev pub terms_line : Table → Sides Terms → Option (List ℕ)
 terms_line t s = option_map (λ (r : DealRefusal). numbered r.number) (signing_fault t.phases t.signals0 t.signals1 s)
 

@@ -3,13 +3,43 @@ use crate::refusals::Refusal;
 use bays::words::TermsSentence;
 use checking::faults::CheckFault;
 use games::watched::sheets::SheetsFault;
+use reading::faults::ReadFault;
 use reading::phase_table::PhaseTable;
 use reading::records::{NO_CHOICE, NO_RANK, Position, Record};
+use reading::words::RefusedSheet;
 use std::fmt::{self, Formatter, Write};
 
-const SIZES: &str = "The side or the sizes of machine, table and deal do not fit.";
+const SIZES: &str = "The side or the sizes of machine, table and deal do not fit";
 
-const RECORD_SIZES: &str = "The sizes of the record do not fit machine and table.";
+const RECORD_SIZES: &str = "The sizes of the record do not fit machine and table";
+
+/// What to do about a record that is no ranked controller.
+fn remedy(fault: CheckFault) -> &'static str {
+    match fault {
+        CheckFault::Reading(_) => "Pass the record as it was written.",
+        CheckFault::Sizes =>
+            "Name side 0 or 1, and a machine and a table whose signals are the same.",
+        CheckFault::RecordSizes => "Write the record for this machine and this table.",
+        CheckFault::HalfKept(_) => "Write both, or neither: choice 255 and rank 65,535.",
+        CheckFault::StartAbsent { .. } => "Write a choice and a rank for it.",
+        CheckFault::Forbidden(_) => "Leave it out: choice 255 and rank 65,535.",
+        CheckFault::NotPromised(_) => "Choose a signal that is promised in this phase.",
+        CheckFault::GoalRank(_) => "Rank each goal 0, and every other state above 0.",
+        CheckFault::NoNext { .. } =>
+            "Choose a signal under which the machine can move, or rely on less.",
+        CheckFault::NextAbsent { .. } => "Keep that position, or choose another signal.",
+        CheckFault::NotLower { .. } => "Rank that position lower, or this one higher.",
+    }
+}
+
+/// That one of the four files is refused.
+fn write_refused<W: Write>(
+    f: &mut Formatter<W>,
+    sheet: &'static str,
+    fault: ReadFault,
+) -> fmt::Result {
+    write!(f, "{}", RefusedSheet { sheet, fault })
+}
 
 /// The position that the rest of a sentence is about.
 #[derive(Clone, Copy)]
@@ -37,7 +67,7 @@ impl fmt::Display for Tick {
     }
 }
 
-/// What is wrong with a refused case, as a sentence.
+/// What is wrong with a refused case, and what to do.
 #[derive(Clone, Copy)]
 pub(crate) struct Sentence<'a> {
     pub(crate) case: &'a Case<'a>,
@@ -47,13 +77,19 @@ pub(crate) struct Sentence<'a> {
 impl fmt::Display for Sentence<'_> {
     fn fmt<W: Write>(&self, f: &mut Formatter<W>) -> fmt::Result {
         match self.refusal {
-            Refusal::Sheets(SheetsFault::Machine(_)) => f.write_str(
-                "The machine sheet is refused.",
+            Refusal::Sheets(SheetsFault::Machine(fault)) => write_refused(
+                f,
+                "machine sheet",
+                fault,
             ),
-            Refusal::Sheets(SheetsFault::Rule(_)) => f.write_str("The rule sheet is refused."),
-            Refusal::Table(_) => f.write_str("The phase table is refused."),
+            Refusal::Sheets(SheetsFault::Rule(fault)) => write_refused(f, "rule sheet", fault),
+            Refusal::Table(fault) => write_refused(f, "phase table", fault),
+            Refusal::Check(CheckFault::Reading(fault)) => write_refused(f, "record", fault),
             Refusal::Terms(fault) => TermsSentence(fault).fmt(f),
-            Refusal::Check(fault) => self.write_fault(f, fault),
+            Refusal::Check(fault) => {
+                self.write_fault(f, fault)?;
+                write!(f, ". {}", remedy(fault))
+            }
         }
     }
 }
@@ -94,7 +130,7 @@ impl Sentence<'_> {
     /// What a check finds.
     fn write_fault<W: Write>(&self, f: &mut Formatter<W>, fault: CheckFault) -> fmt::Result {
         match fault {
-            CheckFault::Reading(_) => f.write_str("The record is refused."),
+            CheckFault::Reading(_) => f.write_str("The record is refused"),
             CheckFault::Sizes => f.write_str(SIZES),
             CheckFault::RecordSizes => f.write_str(RECORD_SIZES),
             CheckFault::HalfKept(at) => {

@@ -12,10 +12,10 @@ mod words;
 use crate::manner::MANNERS;
 use crate::setting::Setting;
 use crate::shift::play;
-use crate::words::NoDealLines;
 use anyhow::bail;
 use console::input::{BAY_LIMIT, read_input};
 use console::words::ask_help;
+use negotiation::words::Explained;
 use std::env;
 
 const USAGE: &str = "usage: shift < BAY
@@ -36,7 +36,7 @@ fn run(rt: &HostRuntime, bay: &[u8]) -> anyhow::Result<()> {
                 play(rt, bay, &setting, manner)?;
             }
         }
-        Err(refusal) => print!(rt; "{}", NoDealLines(refusal))?,
+        Err(refusal) => println!(rt; "{}", Explained(refusal))?,
     }
     Ok(())
 }

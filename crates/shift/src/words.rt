@@ -1,7 +1,4 @@
-use bays::words::BaySentence;
 use cell::faults::CellFault;
-use checking::faults::SearchFault;
-use negotiation::refusals::Refusal;
 use std::fmt::{self, Formatter, Write};
 
 /// A side's machine.
@@ -13,62 +10,35 @@ pub(crate) fn machine(side: u8) -> &'static str {
     }
 }
 
-/// What a refusal means.
+/// What a refusal means, and what to do.
 fn meaning(fault: &CellFault) -> &'static str {
     match fault {
         CellFault::Checking { fault, .. } if fault.reading().is_some() => {
-            "the new table came damaged"
+            "the new table came damaged (send it again)"
         }
-        CellFault::Checking { .. } => "the new table does not keep what it promises",
-        CellFault::NotKept { .. } => "the new table says nothing of where it stands",
-        CellFault::RankRises { .. } => "it would have to wait longer than it was told",
-        CellFault::Idle => "there is no table yet",
-        CellFault::NoChoice { .. } => "it has nothing to show",
-        CellFault::NoSuchMove { .. } => "it cannot have come there",
+        CellFault::Checking { .. } =>
+            "the new table does not keep what it promises (solve it anew)",
+        CellFault::NotKept { .. } =>
+            "the new table says nothing of where it stands (offer it elsewhere)",
+        CellFault::RankRises { .. } =>
+            "it would have to wait longer than it was told (offer it at a goal)",
+        CellFault::Idle => "there is no table yet (offer one first)",
+        CellFault::NoChoice { .. } => "it has nothing to show (offer a table)",
+        CellFault::NoSuchMove { .. } => "it cannot have come there (look where it is)",
     }
 }
 
-/// A refusal: its number, whose it is, and what it means.
+/// A refusal: its number, whose it is, the place in damaged bytes, what it means and what to do.
 #[derive(Clone, Copy)]
 pub(crate) struct Refused(pub(crate) CellFault);
 
 impl fmt::Display for Refused {
     fn fmt<W: Write>(&self, f: &mut Formatter<W>) -> fmt::Result {
         let Refused(fault) = self;
-        write!(
-            f,
-            "refused {}, {}: {}",
-            fault.number(),
-            machine(fault.side()),
-            meaning(fault)
-        )?;
-        match fault.reading() {
-            Some(read) => write!(f, " at byte {}", read.place()),
-            None => Ok(()),
+        write!(f, "refused {}, {}", fault.number(), machine(fault.side()))?;
+        if let Some(read) = fault.reading() {
+            write!(f, ", at byte {}", read.place())?;
         }
-    }
-}
-
-/// Why there is no deal.
-fn reason(fault: SearchFault) -> &'static str {
-    match fault {
-        SearchFault::Sizes => "The signals of lift, shuttle and phase table do not fit together.",
-        SearchFault::TooMany => "There are too many deals to try.",
-        SearchFault::NoDeal(_) => "No deal brings both the lift and the shuttle to their goals.",
-        SearchFault::Allowance | SearchFault::Untried(_) => "Not every deal was tried.",
-    }
-}
-
-/// Why no shift can be played.
-#[derive(Clone, Copy)]
-pub(crate) struct NoDealLines(pub(crate) Refusal);
-
-impl fmt::Display for NoDealLines {
-    fn fmt<W: Write>(&self, f: &mut Formatter<W>) -> fmt::Result {
-        let number = self.0.number();
-        match self.0 {
-            Refusal::Bay(fault) => writeln!(f, "refused {number}: {}", BaySentence(fault)),
-            Refusal::Search(fault) => writeln!(f, "refused {number}: {}", reason(fault)),
-        }
+        write!(f, ": {}", meaning(fault))
     }
 }

@@ -8,6 +8,7 @@ use Rattle.games.specs.Machines.{Model, in_range}
 abbrev pub bit_move : List ℕ → ℕ → ℕ → ℕ → ℕ → Bool
 bit_move xs s a b t = bit (byte xs (32 * (16 * s + 4 * a + b) + t / 8)) (t % 8)
 
+-- the machine of a frame and such bytes; it has no labels
 abbrev pub bit_model : Frame → List ℕ → Model
 bit_model f xs = record {
   states = f.states;

@@ -66,7 +66,7 @@ fn main(rt: HostRuntime) -> anyhow::Result<()> {
     let bytes = read_input(heap, rt.stdin(), BAY_LIMIT)?;
     match Plans::make(heap, bytes.as_slice(), terms)? {
         Ok(plans) => {
-            rt.print(plans.to_string(heap)?)?;
+            rt.print(plans.text(heap)?)?;
             if let Some(files) = files {
                 write(&rt, files.first, &plans.sides.first)?;
                 write(&rt, files.second, &plans.sides.second)?;

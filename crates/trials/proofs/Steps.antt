@@ -1,12 +1,11 @@
 -- What a log answers, step by step.
-use Rattle.std.proofs.Common.{◌≡◌, ℕ, zero, suc, ◌<◌, Bool, true, false, List, [], ◌∷◌, length, map, take, Some, None, Ok, Err, sym, refl, ap, ◌∙◌, subst, arith}
+use Rattle.std.proofs.Common.{◌≡◌, ℕ, zero, suc, ◌<◌, true, List, [], ◌∷◌, length, map, take, Some, None, Ok, Err, sym, refl, ap, ◌∙◌, subst, arith}
 use Rattle.std.specs.Option.{option_map}
 use Rattle.std.proofs.lemmas.List.{take_all}
 use Rattle.reading.specs.declared.sides.Sides.{Sides}
 use Rattle.reading.specs.declared.phase_table.PhaseTable.{PhaseTable}
-use Rattle.reading.specs.Firsts.{first_some, unless}
 use Rattle.reading.specs.Records.{parts_in, record_fault}
-use Rattle.reading.proofs.FirstLaws.{of_none, of_right, unless_none}
+use Rattle.reading.proofs.FirstLaws.{of_none, of_right, unless_none, none_unless}
 use Rattle.games.specs.declared.deal.Deal.{Deal}
 use Rattle.games.specs.Machines.{Model, Marks}
 use Rattle.checking.specs.declared.faults.CheckFault.TheVariants.{Sizes, RecordSizes}
@@ -16,10 +15,12 @@ use Rattle.checking.specs.Checks.{sized, plan_fault, check_fault}
 use Rattle.checking.specs.Faults.{numbers, unread}
 use Rattle.cell.specs.declared.copies.Standing.{Standing}
 use Rattle.cell.specs.declared.calls.Answer.{Answer}
-use Rattle.cell.specs.Faults.{Refusal, bare}
-use Rattle.cell.specs.Logs.{Games, Log, Event, Told, Offering, offered, reported, first, signals, unless_refused, unless_err, changes_fault, choice_fault, move_fault, offer_fault, bounds_of, in_force, moves, moved, answers_offer, answers_report, answers, after, run, all_answers, record_fault as offered_fault}
-use Rattle.cell.specs.Law.{BothMove, Accepted}
+use Rattle.cell.specs.Faults.{Refusal}
+use Rattle.cell.specs.Logs.{Games, Log, Event, Told, Offering, offered, reported, first, signals, unless_err, changes_fault, choice_fault, offer_fault, bounds_of, in_force, moved, answers_offer, answers_report, answers, after, run, all_answers, record_fault as offered_fault}
+use Rattle.cell.specs.Law.{BothMove}
 use Rattle.cell.specs.Cells.{told, Fills}
+use Rattle.cell.proofs.AnswerLaws.{answer_moved, no_fault}
+use Rattle.cell.proofs.AnswerLaws.{accepts as answered, refuses as refused}
 
 -- a record that passes in an arena passes the check that is made there
 pub passes : (m : Model) (k : Marks) (t : PhaseTable) (d : Deal) (side : ℕ) (xs : List ℕ) (a : Arena) → suits m t d side ≡ true → record_fault xs ≡ None → sized m t (parts_in xs) ≡ true →
@@ -35,11 +36,11 @@ only_changes g l o e h = of_right _ _ e ∙ of_right _ _ h
 
 pub accepts : (g : Games) (l : Log) (o : Offering) → offer_fault g l o ≡ None → answers_offer g l o ≡ Ok (bounds_of o)
 unfolding answers_offer
-accepts g l o e = ap (λ f. unless_refused f (bounds_of o)) e
+accepts g l o = answered (offer_fault g l o) (bounds_of o)
 
 pub refuses : (g : Games) (l : Log) (o : Offering) (f : Refusal) → offer_fault g l o ≡ Some f → answers_offer g l o ≡ Err f
 unfolding answers_offer
-refuses g l o f e = ap (λ r. unless_refused r (bounds_of o)) e
+refuses g l o = refused (offer_fault g l o) (bounds_of o)
 
 -- so it comes into force, or changes nothing
 pub comes : (g : Games) (l : Log) (o : Offering) (b : Sides ℕ) → answers_offer g l o ≡ Ok b → after g l (offered o) ≡ in_force o l
@@ -55,33 +56,13 @@ moves_on g l to s e = ap (λ a. unless_err a (moved g to l) l) e
 pub stands : (g : Games) (l : Log) (to : Sides ℕ) (f : Refusal) → answers_report g l to ≡ Err f → after g l (reported to) ≡ l
 stands g l to f e = ap (λ a. unless_err a (moved g to l) l) e
 
-not_accepted : (f : Refusal) → Accepted (Err f) → ⊥
-not_accepted f a = let e = a.1 in let z : ◌≡◌ {A = ℕ} 0 1 = cc in omega arith
-
--- two tests are passed if there is an answer, and only then
-both_passed : (b c : Bool) (f h : Refusal) (x : Sides ℕ) → Accepted (unless_refused (first_some (unless b f) (unless c h)) x) → (b ≡ true) × (c ≡ true)
-both_passed true true f h x a = (refl, refl)
-both_passed true false f h x a = absurd (not_accepted h a)
-both_passed false c f h x a = absurd (not_accepted f a)
-
-passed : (b c : Bool) (f h : Refusal) (x : Sides ℕ) → b ≡ true → c ≡ true → unless_refused (first_some (unless b f) (unless c h)) x ≡ Ok x
-passed b c f h x e d = rw (e, d) refl
-
 module _ (g : Games) (a : Standing) (o : Offering) where
   abbrev pub here : Log
   here = record { at = a; force = Some o }
 
-  module _ (c0 : choice_fault here 0 ≡ None) (c1 : choice_fault here 1 ≡ None) (to : Sides ℕ) where
-    -- where both sides have a choice, it is on their moves alone
-    reported_by : answers_report g here to ≡ unless_refused (first_some (move_fault g here to 0) (move_fault g here to 1)) (signals (moved g to here))
-    unfolding answers_report
-    reported_by = ap (λ f. unless_refused f (signals (moved g to here))) (of_right _ _ c0 ∙ of_right _ _ c1)
-
-    pub only_moves : Accepted (answers_report g here to) → BothMove g here to
-    only_moves h = both_passed (moves g here 0 to.first) (moves g here 1 to.second) (bare 33 0) (bare 33 1) (signals (moved g to here)) (subst Accepted reported_by h)
-
-    pub all_moves : BothMove g here to → answers_report g here to ≡ Ok (signals (moved g to here))
-    all_moves h = reported_by ∙ passed (moves g here 0 to.first) (moves g here 1 to.second) (bare 33 0) (bare 33 1) (signals (moved g to here)) h.0 h.1
+  -- where both sides have a choice, a report of moves that both machines can make is accepted
+  pub all_moves : (to : Sides ℕ) → choice_fault here 0 ≡ None → choice_fault here 1 ≡ None → BothMove g here to → answers_report g here to ≡ Ok (signals (moved g to here))
+  all_moves to c0 c1 h = answer_moved g here to (no_fault g here to (none_unless _ _ c0) (none_unless _ _ c1) h)
 
 -- calls in turn, what they are answered, and what holds after each
 pub data Goes (g : Games) (P : Log → Type 0) : List Event → Log → List Told → Type 0 where

@@ -1,6 +1,6 @@
 -- The bay of two phases: its machines are lawful, it has a table and a deal, and its records pass.
-use Rattle.std.proofs.Common.{◌≡◌, ℕ, ◌<◌, Bool, true, false, ltb, List, [], ◌∷◌, get_or, None, refl, ap, ◌∙◌, arith}
-use Rattle.std.proofs.lemmas.Bool.{and_parts, ltb-true}
+use Rattle.std.proofs.Common.{◌≡◌, ℕ, ◌<◌, ◌==◌, Bool, true, false, cond, ltb, List, [], ◌∷◌, get_or, None, refl, ap, ◌∙◌, arith}
+use Rattle.std.proofs.lemmas.Bool.{ltb-true}
 use Rattle.reading.specs.declared.sides.Sides.{Sides}
 use Rattle.reading.specs.declared.sizes.Sizes.{Sizes}
 use Rattle.reading.specs.declared.phase_table.PhaseTable.{PhaseTable}
@@ -12,6 +12,7 @@ use Rattle.games.specs.Sets.{width, has}
 use Rattle.games.specs.declared.deal.Deal.{Deal}
 use Rattle.games.specs.declared.deal.Terms.{Terms}
 use Rattle.games.specs.Machines.{Model, Lawful, forbidden_in, goal_in}
+use Rattle.games.specs.LiftLaws.{inside}
 use Rattle.games.proofs.SetLaws.{all_at}
 use Rattle.checking.specs.Arenas.{Arena, arena, suits, promised, relied}
 use Rattle.checking.specs.Checks.{check_fault}
@@ -30,11 +31,7 @@ lawful named = record {
   starts = omega arith;
   labels = λ s. omega arith;
   unlabelled = λ s h. refl;
-  inside = λ s a b t h.
-      (let p = (and_parts _ _ h).0 in
-      let x = and_parts _ _ (and_parts _ _ p).0 in
-      let y = and_parts _ _ (and_parts _ _ p).1 in
-      (ltb-true s 3 x.0, ltb-true a 2 y.0, ltb-true b 2 y.1, ltb-true t 3 x.1));
+  inside = λ s a b t. inside 3 2 2 s a b t (t == cond (a == b) 2 (named a b));
 }
 
 -- a table and a deal of the bay

@@ -12,8 +12,9 @@ use Rattle.cell.specs.Faults.{bare, about}
 use Rattle.cell.specs.Logs.{Log, Offering, to_offer, to_report, first, signals, ranks, choice_fault, phase_after, moves, moved, answers_offer, answers_report}
 use Rattle.cell.specs.Law.{Guarantee, BothMove, last_accepted, largest_answered}
 use Rattle.trials.specs.Witness.{leader, marks, bay, table, Stands, high, low, calls, told, Runs, Witness}
-use Rattle.trials.proofs.Steps.{only_changes, accepts, refuses, comes, stays, moves_on, stands, here, only_moves, all_moves, Goes, answers_by, holds_after}
+use Rattle.trials.proofs.Steps.{only_changes, accepts, refuses, comes, stays, moves_on, stands, here, all_moves, Goes, answers_by, holds_after}
 use Rattle.trials.proofs.Steps.Goes.{ends, goes}
+use Rattle.cell.proofs.AnswerLaws.{moves_from_accepted}
 use Rattle.trials.proofs.WitnessBay.{lawful, there, high0, high1, low0, low1, promised0, promised1, relied0, relied1}
 
 law : (a : Standing) (o : Offering) → Guarantee bay (here bay a o) o 0 → Guarantee bay (here bay a o) o 1 → choice_fault (here bay a o) 0 ≡ None → choice_fault (here bay a o) 1 ≡ None →
@@ -24,8 +25,8 @@ law a o g0 g1 c0 c1 = (
   record {
     first = g0;
     second = g1;
-    only_moves = λ to h. only_moves bay a o c0 c1 to h;
-    all_moves = λ to h. (signals (moved bay to (here bay a o)), all_moves bay a o c0 c1 to h);
+    only_moves = λ to. moves_from_accepted bay (here bay a o) to;
+    all_moves = λ to h. (signals (moved bay to (here bay a o)), all_moves bay a o to c0 c1 h);
   },
 )
 
@@ -62,7 +63,7 @@ module _ (t : PhaseTable) (d : Deal) (s : Stands t d) where
 
   reports : (x p w y q v : ℕ) (o : Offering) → (choice_fault (at x p w o) 0 ≡ None) × (choice_fault (at x p w o) 1 ≡ None) → BothMove bay (at x p w o) (both y y)
       → moved bay (both y y) (at x p w o) ≡ at y q v o → answers_report bay (at x p w o) (both y y) ≡ Ok (signals (at y q v o))
-  reports x p w y q v o shows go then = all_moves bay (standing x p w) o shows.0 shows.1 (both y y) go ∙ ap (λ l. Ok (signals l)) then
+  reports x p w y q v o shows go then = all_moves bay (standing x p w) o (both y y) shows.0 shows.1 go ∙ ap (λ l. Ok (signals l)) then
 
   -- where the bay stands after the first offer, the first report, the second offer, and the two reports after it
   abbrev begun : Log

@@ -6,6 +6,7 @@ use Rattle.trials.specs.Searches.{Searching}
 use Rattle.trials.specs.Replays.{Replaying}
 use Rattle.trials.specs.Witness.{Witness}
 
+-- the whole of them
 pub record Examples : Type 0 where
   -- the toggle watched by its rule sheet
   pub watched_toggle : WatchedToggle

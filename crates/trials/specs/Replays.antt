@@ -12,6 +12,7 @@ use Rattle.cell.specs.Cells.{told, Fills}
 use Rattle.trials.specs.Checks.{ranked}
 use Rattle.trials.specs.Searches.{toggles, toggles_marks, OnePhase}
 
+-- two watched toggles, one for each side
 abbrev pub two_toggles : Games
 two_toggles = record { machines = toggles; marks = toggles_marks }
 

@@ -10,9 +10,11 @@ use Rattle.checking.specs.declared.search.Agreement.{Agreement}
 use Rattle.checking.specs.Searching.{both, terms_of, Searches}
 use Rattle.trials.specs.Toggles.{watched_toggle, toggle_marks}
 
+-- a watched toggle for each side
 abbrev pub toggles : Sides Model
 toggles = both watched_toggle watched_toggle
 
+-- its goals and forbidden states for each side
 abbrev pub toggles_marks : Sides Marks
 toggles_marks = both toggle_marks toggle_marks
 

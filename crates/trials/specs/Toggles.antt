@@ -19,5 +19,6 @@ rule = 2 ∷ 2 ∷ 0 ∷ 0 ∷ 0 ∷ 1 ∷ 0 ∷ 0 ∷ 0 ∷ 0 ∷ 0 ∷ 0 ∷ 0
 abbrev pub watched_toggle : Model
 watched_toggle = watched (sheet_model toggle) (automaton_in rule)
 
+-- its goals and forbidden states
 abbrev pub toggle_marks : Marks
 toggle_marks = watch_marks (sheet_model toggle) (automaton_in rule)

@@ -24,10 +24,11 @@ follows named = record {
   move = λ s a b t. in_range 3 2 2 s a b t && t == cond (a == b) 2 (named a b);
 }
 
--- side 0's machine goes by its own signal, side 1's by its partner's, which is the same
+-- side 0's machine goes by its own signal
 abbrev pub leader : Model
 leader = follows (λ a b. a)
 
+-- side 1's by its partner's, which is the same
 abbrev pub follower : Model
 follower = follows (λ a b. b)
 
@@ -35,6 +36,7 @@ follower = follows (λ a b. b)
 abbrev pub marks : Marks
 marks = record { forbidden = λ s. s == 2; goal = λ s. s == 1 }
 
+-- the two machines with these marks
 abbrev pub bay : Games
 bay = record { machines = both leader follower; marks = both marks marks }
 
@@ -63,12 +65,15 @@ keeping c0 c1 r0 r1 =
 abbrev pub offer : PhaseTable → Deal → ℕ → ℕ → ℕ → ℕ → Offering
 offer t d r0 r1 s0 s1 = record { table = t; deal = d; records = both (keeping 0 1 r0 r1) (keeping 1 0 s0 s1) }
 
+-- an offer with ranks 5 and 3, 6 and 2
 abbrev pub high : PhaseTable → Deal → Offering
 high t d = offer t d 5 3 6 2
 
+-- one with lower ranks: 3 and 1, 2 and 1
 abbrev pub low : PhaseTable → Deal → Offering
 low t d = offer t d 3 1 2 1
 
+-- fourteen calls
 abbrev pub calls : PhaseTable → Deal → List Event
 calls t d =
     offered (high t d)

@@ -70,7 +70,7 @@ fn one_phase(rt: HostRuntime) {
 }
 
 #[test]
-fn two_phases(rt: HostRuntime) -> Result<(), Fail> {
+fn two_phases(rt: HostRuntime) {
     // side 0 has one signal, side 1 has two
     let mut table = PhaseTable::new();
     assert!(rt; table.read(&PHASES).is_ok());
@@ -79,6 +79,12 @@ fn two_phases(rt: HostRuntime) -> Result<(), Fail> {
     assert_eq!(rt; told(&table, (17, 19), (51, 17)), (21, 1, 1));
     assert_eq!(rt; told(&table, (1, 51), (51, 17)), (20, 65535, 2));
     assert_eq!(rt; told(&table, (33, 51), (51, 17)), (20, 65535, 2));
+}
+
+#[test]
+fn deal_says(rt: HostRuntime) -> Result<(), Fail> {
+    let mut table = PhaseTable::new();
+    assert!(rt; table.read(&PHASES).is_ok());
     let Ok(deal) = signed(&table, (17, 51), (35, 17)) else {
         return Err(Fail::new("refused"));
     };

@@ -103,6 +103,14 @@ fn lifts(rt: HostRuntime) -> Result<(), Fail> {
         (lift.label(5), lift.label(6), lift.label(7), lift.label(8)),
         (0, 3, 4, 0)
     );
+    Ok(())
+}
+
+#[test]
+fn lift_moves(rt: HostRuntime) -> Result<(), Fail> {
+    let Ok(lift) = Lift::new(4, 2) else {
+        return Err(Fail::new("refused"));
+    };
     assert_eq!(rt;
         (nexts(&lift, 0, 0, 1), nexts(&lift, 5, 0, 0)),
         ((1, 0), (1, 5))

@@ -6,13 +6,20 @@ use std::alloc::Global;
 use std::process::Abort;
 use std::test::Fail;
 
-fn says(rt: &impl Abort, heap: Global, kind: Kind, bytes: &[u8], text: &str) -> Result<(), Fail> {
+/// What inspection says of a sheet is a text.
+pub(crate) fn says(
+    rt: &impl Abort,
+    heap: Global,
+    kind: Kind,
+    bytes: &[u8],
+    text: &str,
+) -> Result<(), Fail> {
     assert_eq!(rt; inspect(heap, kind, bytes)?.as_str(), text);
     Ok(())
 }
 
 /// A mark sheet with one byte of forbidden states and one of goals.
-fn marks(forbidden: u8, goals: u8) -> [u8; 64] {
+pub(crate) fn marks(forbidden: u8, goals: u8) -> [u8; 64] {
     let mut bytes = [0; 64];
     bytes[0] = forbidden;
     bytes[32] = goals;
@@ -121,105 +128,6 @@ bound: 258 (the largest kept rank)
     says(&rt, rt.alloc(), Kind::Record, &bytes, text)
 }
 
-/// One sheet for each number of a fault.
-const REFUSED: [(Kind, &[u8], &str); 11] = [
-    (
-        Kind::Machine,
-        &[2, 0, 2, 2, 0],
-        "refused 1 at byte 5\nA machine sheet has at least 8 bytes; this one has 5.\n",
-    ),
-    (
-        Kind::Machine,
-        &[2, 0, 5, 2, 0, 0, 0, 0],
-        "refused 2 at byte 2\nThe number of own signals is not 1 to 4.\n",
-    ),
-    (
-        Kind::Phases,
-        &[1, 2, 2, 0],
-        "refused 3 at byte 4\nThe length does not fit the sizes in its fields.\n",
-    ),
-    (
-        Kind::Marks(4),
-        &[0; 60],
-        "refused 3 at byte 60\nA mark sheet has 64 bytes; this one has 60.\n",
-    ),
-    (
-        Kind::Machine,
-        &[4, 0, 1, 1, 0, 0, 0, 0, 0, 1, 2, 8],
-        "refused 4 at byte 11\nThe label of state 3 is above 7.\n",
-    ),
-    (
-        Kind::Machine,
-        &[1, 0, 1, 1, 0, 0, 2, 0, 0, 0, 0, 0, 0, 0, 0, 1, 0],
-        "refused 4 at byte 15\nThe target of move 1 is not a state of the machine.\n",
-    ),
-    (
-        Kind::Rule(1),
-        &[1, 0, 0, 0, 0, 0, 0, 0, 0, 1, 0, 0],
-        "refused 4 at byte 9\nThe next state of state 0 on label 5 is not a state of the automaton.\n",
-    ),
-    (
-        Kind::Phases,
-        &[1, 2, 2, 0, 0, 1, 0],
-        "refused 4 at byte 5\nThe phase after phase 0 on signals 1 and 0 is not a phase of the table.\n",
-    ),
-    (
-        Kind::Record,
-        &[1, 0, 2, 1, 0, 1, 0, 0, 0, 0],
-        "refused 4 at byte 5\nThe choice for state 0 in phase 1 is neither a signal nor absent.\n",
-    ),
-    (
-        Kind::Machine,
-        &[1, 0, 2, 1, 0, 0, 2, 0, 0, 1, 0, 0, 0, 0, 0, 0, 0],
-        "refused 5 at byte 11\nMove 1 does not come after the move before it.\n",
-    ),
-    (
-        Kind::Rule(200),
-        &[2, 0, 0, 0, 0, 0, 0, 0, 0, 0, 0, 0, 0, 0, 0, 0, 0, 0, 0, 0],
-        "refused 7 at byte 0\nThe machine's 200 states times the automaton's 2 are above 256.\n",
-    ),
-];
-
-#[test]
-fn refused(rt: HostRuntime) -> Result<(), Fail> {
-    for (kind, bytes, text) in REFUSED {
-        says(&rt, rt.alloc(), kind, bytes, text)?;
-    }
-    Ok(())
-}
-
-#[test]
-fn refused_marks(rt: HostRuntime) -> Result<(), Fail> {
-    let stray =
-        "refused 4 at byte 32\nState 5 is marked as a goal, but the machine has 4 states.\n";
-    says(
-        &rt,
-        rt.alloc(),
-        Kind::Marks(4),
-        &marks(0b0001, 0b0010_0010),
-        stray,
-    )?;
-    let both = "refused 6 at byte 0\nState 2 is marked forbidden and as a goal.\n";
-    says(
-        &rt,
-        rt.alloc(),
-        Kind::Marks(4),
-        &marks(0b0101, 0b0110),
-        both,
-    )
-}
-
-#[test]
-fn too_long(rt: HostRuntime) -> Result<(), Fail> {
-    let heap = rt.alloc();
-    let long = vec![in heap; 0; 40_001]?;
-    let text = "refused 3 at byte 40001\nA sheet has at most 40,000 bytes; this one has more.\n";
-    says(&rt, heap, Kind::Machine, long.as_slice(), text)?;
-    // One byte less is read, and refused for what it says.
-    let text = "refused 2 at byte 0\nThe number of states is not 1 to 256.\n";
-    says(&rt, heap, Kind::Machine, &long.as_slice()[1..], text)
-}
-
 /// What a line of words after the program's name asks for.
 fn asked(heap: Global, line: &str) -> Result<Option<Request>, Fail> {
     let mut words = Vec::new(heap);
@@ -255,7 +163,7 @@ fn requests(rt: HostRuntime) -> Result<(), Fail> {
 }
 
 #[test]
-fn products_and_lifts(rt: HostRuntime) -> Result<(), Fail> {
+fn products(rt: HostRuntime) -> Result<(), Fail> {
     let heap = rt.alloc();
     let text = "machine watched by an automaton
 states              4
@@ -272,15 +180,21 @@ state 0 (machine 0, automaton 0, label 0):
     assert!(rt; product(heap, &TOGGLE, &RULE)?.as_str().starts_with(text));
     assert_eq!(rt;
         product(heap, &TOGGLE[0..7], &[])?.as_str(),
-        "refused 1 at byte 7\nA machine sheet has at least 8 bytes; this one has 7.\n"
+        "refused 1 at byte 7\nA machine sheet has at least 8 bytes; this one has 7. Pass the whole of it.\n"
     );
     assert_eq!(rt;
         product(heap, &TOGGLE, &RULE[0..3])?.as_str(),
-        "refused 1 at byte 3\nA rule sheet has at least 4 bytes; this one has 3.\n"
+        "refused 1 at byte 3\nA rule sheet has at least 4 bytes; this one has 3. Pass the whole of it.\n"
     );
+    Ok(())
+}
+
+#[test]
+fn lifts(rt: HostRuntime) -> Result<(), Fail> {
+    let heap = rt.alloc();
     assert_eq!(rt;
         lift(heap, 33, 9)?.as_str(),
-        "refused 2 at byte 0\nA lift has 2 to 32 floors.\n"
+        "refused 2 at byte 0\nA lift has 2 to 32 floors. Put a value in range there.\n"
     );
     let text = "lift
 states              4

@@ -3,6 +3,8 @@
 #![tactic(auto)]
 
 #[cfg(test)]
+mod changes;
+#[cfg(test)]
 mod checking_tests;
 #[cfg(test)]
 mod deal_tests;
@@ -18,6 +20,8 @@ mod planning_tests;
 mod reading_tests;
 #[cfg(test)]
 mod recordings_tests;
+#[cfg(test)]
+mod refusals_tests;
 pub mod replays;
 #[cfg(test)]
 mod replays_tests;
@@ -29,3 +33,5 @@ mod searching_tests;
 pub mod shown;
 #[cfg(test)]
 mod solving_tests;
+#[cfg(test)]
+mod tables_tests;

@@ -29,7 +29,7 @@ fn text(heap: Global, bytes: &[u8], promise: u32, reliance: u32) -> Result<Strin
         second: terms,
     };
     match Plans::make(heap, bytes, both)? {
-        Ok(plans) => Ok(plans.to_string(heap)?),
+        Ok(plans) => Ok(plans.text(heap)?),
         Err(refusal) => Ok(refusal.text(heap)?),
     }
 }
@@ -53,17 +53,17 @@ const DEALS: [(u32, u32, &str); 4] = [
     (
         3,
         3,
-        "side 0: refused 23: it has no controller\nside 1: refused 23: it has no controller\n",
+        "side 0: refused 23: it has no controller. Let it promise more or rely on less, or ease its rules.\nside 1: refused 23: it has no controller. Let it promise more or rely on less, or ease its rules.\n",
     ),
     (
         3,
         2,
-        "refused 21\nIn phase 0 side 0 promises more than side 1 relies on.\n",
+        "refused 21\nIn phase 0 side 0 promises more than side 1 relies on. Let it promise less there, or the other rely on more.\n",
     ),
     (
         0,
         2,
-        "refused 20\nThe terms of side 0 are not as described.\n",
+        "refused 20\nThe terms of side 0 are not as described. Name for each phase some of the signals that there are, and nothing else.\n",
     ),
 ];
 
@@ -72,24 +72,28 @@ const DAMAGES: [(usize, u8, &str); 5] = [
     (
         0,
         41,
-        "refused 3 at byte 141\nFive lengths and the five sheets do not make up the input.\n",
+        "refused 3 at byte 141\nFive lengths and the five sheets do not make up the input. Pass all of them and nothing else, at most 40,000 bytes.\n",
     ),
     (
         10,
         0,
-        "refused 2 at byte 0\nThe machine sheet of side 0 is refused.\n",
+        "refused 2 at byte 0\nThe machine sheet of side 0 is refused: a field is out of its range. Put a value in range there.\n",
     ),
     (
         52,
         9,
-        "refused 2 at byte 0\nThe rule sheet of side 0 is refused.\n",
+        "refused 2 at byte 0\nThe rule sheet of side 0 is refused: a field is out of its range. Put a value in range there.\n",
     ),
     (
         72,
         0,
-        "refused 2 at byte 0\nThe machine sheet of side 1 is refused.\n",
+        "refused 2 at byte 0\nThe machine sheet of side 1 is refused: a field is out of its range. Put a value in range there.\n",
     ),
-    (140, 1, "refused 4 at byte 6\nThe phase table is refused.\n"),
+    (
+        140,
+        1,
+        "refused 4 at byte 6\nThe phase table is refused: an entry is out of its range. Put a value in range there.\n",
+    ),
 ];
 
 fn plans_deals(rt: &impl Abort, heap: Global) -> Result<(), Fail> {
@@ -123,7 +127,8 @@ fn damaged_bays_are_refused(rt: HostRuntime) -> Result<(), Fail> {
 
 #[test]
 fn a_short_bay_is_refused(rt: HostRuntime) -> Result<(), Fail> {
-    let told = "refused 1 at byte 9\nFive lengths and the five sheets do not make up the input.\n";
+    let told =
+        "refused 1 at byte 9\nFive lengths and the five sheets do not make up the input. Pass all of them and nothing else, at most 40,000 bytes.\n";
     assert_eq!(rt; text(rt.alloc(), &[0; 9], 2, 2)?.as_str(), told);
     Ok(())
 }

@@ -41,39 +41,39 @@ const RECORDS: [(&[u8], &str); 10] = [
     (&RANKED, "bound 6\n"),
     (
         &[4, 0, 1, 2, 1, 1, 1, 9, 5, 0, 0, 0, 6, 0, 0, 0],
-        "refused 4 at byte 7\nThe record is refused.\n",
+        "refused 4 at byte 7\nThe record is refused: an entry is out of its range. Put a value in range there.\n",
     ),
     (
         &[2, 0, 1, 2, 1, 1, 5, 0, 0, 0],
-        "refused 11\nThe sizes of the record do not fit machine and table.\n",
+        "refused 11\nThe sizes of the record do not fit machine and table. Write the record for this machine and this table.\n",
     ),
     (
         &[4, 0, 1, 2, 1, 1, 255, 1, 5, 0, 0, 0, 6, 0, 0, 0],
-        "refused 12\nstate 2, phase 0: only one of choice and rank is absent\n",
+        "refused 12\nstate 2, phase 0: only one of choice and rank is absent. Write both, or neither: choice 255 and rank 65,535.\n",
     ),
     (
         &[4, 0, 1, 2, 255, 1, 1, 1, 255, 255, 0, 0, 6, 0, 0, 0],
-        "refused 13\nstate 0, phase 0: the start is not kept\n",
+        "refused 13\nstate 0, phase 0: the start is not kept. Write a choice and a rank for it.\n",
     ),
     (
         &[4, 0, 1, 2, 1, 0, 1, 1, 5, 0, 0, 0, 6, 0, 0, 0],
-        "refused 15\nstate 1, phase 0: the choice 0 is not promised\n",
+        "refused 15\nstate 1, phase 0: the choice 0 is not promised. Choose a signal that is promised in this phase.\n",
     ),
     (
         &[4, 0, 1, 2, 1, 1, 1, 1, 0, 0, 0, 0, 2, 0, 0, 0],
-        "refused 16\nstate 0, phase 0: the rank 0 is not at a goal\n",
+        "refused 16\nstate 0, phase 0: the rank 0 is not at a goal. Rank each goal 0, and every other state above 0.\n",
     ),
     (
         &[4, 0, 1, 2, 1, 1, 1, 1, 5, 0, 3, 0, 6, 0, 0, 0],
-        "refused 16\nstate 1, phase 0: a goal has rank 3\n",
+        "refused 16\nstate 1, phase 0: a goal has rank 3. Rank each goal 0, and every other state above 0.\n",
     ),
     (
         &[4, 0, 1, 2, 1, 1, 1, 255, 5, 0, 0, 0, 6, 0, 255, 255],
-        "refused 18\nstate 0, phase 0: under partner signal 1 the next state 3 is not kept in phase 0\n",
+        "refused 18\nstate 0, phase 0: under partner signal 1 the next state 3 is not kept in phase 0. Keep that position, or choose another signal.\n",
     ),
     (
         &[4, 0, 1, 2, 1, 1, 1, 1, 1, 0, 0, 0, 1, 0, 0, 0],
-        "refused 19\nstate 2, phase 0: under partner signal 1 the next state 0 has rank 1, not below 1\n",
+        "refused 19\nstate 2, phase 0: under partner signal 1 the next state 0 has rank 1, not below 1. Rank that position lower, or this one higher.\n",
     ),
 ];
 
@@ -91,7 +91,8 @@ fn no_side(rt: HostRuntime) -> Result<(), Fail> {
         side: 2,
         ..toggle(&RANKED)
     };
-    let text = "refused 10\nThe side or the sizes of machine, table and deal do not fit.\n";
+    let text =
+        "refused 10\nThe side or the sizes of machine, table and deal do not fit. Name side 0 or 1, and a machine and a table whose signals are the same.\n";
     says(&rt, rt.alloc(), &case, text)
 }
 
@@ -102,7 +103,8 @@ fn forbidden(rt: HostRuntime) -> Result<(), Fail> {
         rule: &[2, 2, 2, 0, 0, 1, 0, 0, 0, 0, 0, 0, 0, 1, 0, 0, 0, 0, 0, 0],
         ..toggle(&RANKED)
     };
-    let text = "refused 14\nstate 2, phase 0: the state is forbidden, yet kept\n";
+    let text =
+        "refused 14\nstate 2, phase 0: the state is forbidden, yet kept. Leave it out: choice 255 and rank 65,535.\n";
     says(&rt, rt.alloc(), &case, text)
 }
 
@@ -116,7 +118,8 @@ fn no_move(rt: HostRuntime) -> Result<(), Fail> {
         ],
         ..toggle(&RANKED)
     };
-    let text = "refused 17\nstate 0, phase 0: under partner signal 1 there is no next state\n";
+    let text =
+        "refused 17\nstate 0, phase 0: under partner signal 1 there is no next state. Choose a signal under which the machine can move, or rely on less.\n";
     says(&rt, rt.alloc(), &case, text)
 }
 
@@ -136,7 +139,7 @@ fn side_1(rt: HostRuntime) -> Result<(), Fail> {
         ])
     };
     let text =
-        "refused 18\nstate 0, phase 0: under partner signal 1 the next state 0 is not kept in phase 1\n";
+        "refused 18\nstate 0, phase 0: under partner signal 1 the next state 0 is not kept in phase 1. Keep that position, or choose another signal.\n";
     says(&rt, rt.alloc(), &case, text)
 }
 
@@ -166,15 +169,24 @@ fn refused_sheets(rt: HostRuntime) -> Result<(), Fail> {
     for (case, text) in [
         (
             machined,
-            "refused 1 at byte 7\nThe machine sheet is refused.\n",
+            "refused 1 at byte 7\nThe machine sheet is refused: it is shorter than its fixed fields. Pass the whole of it.\n",
         ),
-        (ruled, "refused 1 at byte 3\nThe rule sheet is refused.\n"),
-        (tabled, "refused 4 at byte 5\nThe phase table is refused.\n"),
+        (
+            ruled,
+            "refused 1 at byte 3\nThe rule sheet is refused: it is shorter than its fixed fields. Pass the whole of it.\n",
+        ),
+        (
+            tabled,
+            "refused 4 at byte 5\nThe phase table is refused: an entry is out of its range. Put a value in range there.\n",
+        ),
         (
             apart,
-            "refused 21\nIn phase 0 side 0 promises more than side 1 relies on.\n",
+            "refused 21\nIn phase 0 side 0 promises more than side 1 relies on. Let it promise less there, or the other rely on more.\n",
         ),
-        (unread, "refused 1 at byte 0\nThe record is refused.\n"),
+        (
+            unread,
+            "refused 1 at byte 0\nThe record is refused: it is shorter than its fixed fields. Pass the whole of it.\n",
+        ),
     ] {
         says(&rt, rt.alloc(), &case, text)?;
     }
@@ -188,17 +200,17 @@ fn refused_terms(rt: HostRuntime) -> Result<(), Fail> {
         (
             terms(4, 2),
             terms(0, 2),
-            "refused 20\nThe terms of side 0 are not as described.\n",
+            "refused 20\nThe terms of side 0 are not as described. Name for each phase some of the signals that there are, and nothing else.\n",
         ),
         (
             terms(2, 2),
             terms(2, 0),
-            "refused 20\nThe terms of side 1 are not as described.\n",
+            "refused 20\nThe terms of side 1 are not as described. Name for each phase some of the signals that there are, and nothing else.\n",
         ),
         (
             terms(2, 2),
             terms(3, 2),
-            "refused 21\nIn phase 0 side 1 promises more than side 0 relies on.\n",
+            "refused 21\nIn phase 0 side 1 promises more than side 0 relies on. Let it promise less there, or the other rely on more.\n",
         ),
     ] {
         let case = Case {

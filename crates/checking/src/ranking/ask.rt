@@ -1,9 +1,10 @@
-ghost use Rattle.std.specs.Prelude.{◌+◌, ◌*◌, ◌<◌, ◌≡◌, slice_index_or, slice_set};
+ghost use Rattle.std.specs.Prelude.{◌+◌, ◌*◌, ◌<◌, ◌≡◌, ◌==◌, not, slice_index_or, slice_set};
 ghost use Rattle.checking.specs.Solving.{absent};
 
 use crate::ranking::{ABSENT, Entry, Ranking};
+use crate::snapshot::Snapshot;
 use crate::state_set::StateSet;
-use reading::records::Position;
+use reading::records::{NO_RANK, Position};
 use std::alloc::{AllocError, Global};
 
 impl Ranking {
@@ -20,6 +21,17 @@ impl Ranking {
         ensures { result ≡ slice_index_or self.now.entries.items (at.state * 8 + at.phase) absent }
     {
         self.entries.get(at.place(8)).copied().unwrap_or(ABSENT)
+    }
+
+    /// Whether the start of a game is ranked in phase 0.
+    pub(crate) fn ranks_start(&self, game: &Snapshot) -> bool
+        ensures { result ≡ not ((slice_index_or self.now.entries.items (game.now.frame.start * 8 + 0) absent).rank == 65535) }
+    {
+        let start = Position {
+            state: game.start(),
+            phase: 0,
+        };
+        self.entry(start).rank != NO_RANK
     }
 
     /// Gives a position its entry.

@@ -1,5 +1,5 @@
 use Rattle.std.proofs.Common.{sym, refl, ap, ◌∙◌}
-use Rattle.std.proofs.lemmas.Bool.{eqb-true, eqb-false, not-true, not-false}
+use Rattle.std.proofs.lemmas.Bool.{eqb-true}
 use Rattle.std.proofs.lemmas.Result.{err_from_is_err_and}
 use Rattle.reading.specs.Records.{bound_of}
 use Rattle.reading.proofs.Answering.{passed, failed}
@@ -17,7 +17,7 @@ returns-in_err-check-3 g c =
     rw (p.1, p.2, f.1) (
       refl,
       none_found m (g.G.Game.marks c.args.game.now) c.args.table.now c.args.deal.now c.args.side (g.met.G.Machine.lawful c.args.game.now) suits c.take.new.self c.take.ensures c.settle.new.self c.settle.ensures
-          c.args.buffer.now size c.start.result _ c.start.ensures c.entry-kept.ensures (eqb-true _ _ (not-false _ f.0)),
+          c.args.buffer.now size (sym c.ranks_start-kept.ensures ∙ f.0),
     )
 
 pub unwrap-requires : goal.unwrap-requires
@@ -34,5 +34,5 @@ returns g c =
     let suits = sym c.suits.ensures ∙ passed _ _ c.in_ok-check.ensures in
     let size = eqb-true _ _ (passed _ _ c.in_ok-check-2.ensures) ∙ c.length-size.ensures ∙ ap (λ i. record_size i c.phases.result) c.states.ensures ∙ ap (record_size m.states) c.phases.ensures in
     written_found m (g.G.Game.marks c.args.game.now) c.args.table.now c.args.deal.now c.args.side (g.met.G.Machine.lawful c.args.game.now) suits c.take.new.self c.take.ensures c.settle.new.self c.settle.ensures
-    c.args.buffer.now size c.start.result _ c.start.ensures c.entry-kept.ensures (eqb-false _ _ (not-true _ (passed _ _ c.in_ok-check-3.ensures)))
+    c.args.buffer.now size (sym c.ranks_start-kept.ensures ∙ passed _ _ c.in_ok-check-3.ensures)
     c.write.new.buffer c.write.ensures c.bound.result (c.bound.ensures ∙ ap bound_of (rw c.unwrap.ensures at c.read.ensures.value))

@@ -13,7 +13,6 @@ use crate::seat::Seat;
 use games::deal::Deal;
 use games::machine::{Game, Machine};
 use reading::phase_table::PhaseTable;
-use reading::records::{NO_RANK, Position};
 
 impl Player {
     /// Takes up a game, of which nothing is known yet.
@@ -36,11 +35,7 @@ impl Player {
             side,
         };
         ranking.settle(&seat);
-        let start = Position {
-            state: self.snapshot.start(),
-            phase: 0,
-        };
-        ranking.entry(start).rank != NO_RANK
+        ranking.ranks_start(&self.snapshot)
     }
 
     /// Whether it is known that there is no controller at a place.

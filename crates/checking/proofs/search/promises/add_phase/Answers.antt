@@ -1,5 +1,6 @@
 use Rattle.std.proofs.Common.{rules, ◌≡◌, ◌+◌, ◌*◌, ◌-◌, ◌^◌, ◌++◌, length, map, take, vec_items, vec_len, vec_capacity, ap, ◌∙◌, arith}
-use Rattle.checking.proofs.PromiseLaws.{raise_fits, set_fits, more_fits, room_for, all_blocks, raised_block, next_block, block_many, one_set}
+use Rattle.checking.proofs.BlockLaws.{raised_block, next_block, block_many}
+use Rattle.checking.proofs.PromiseLaws.{raise_fits, set_fits, more_fits, room_for, all_blocks, one_set}
 use Rattle.checking.proofs.search.promises.add_phase.Goals as goal
 
 pub raise-requires : goal.raise-requires

@@ -1,5 +1,5 @@
 use Rattle.std.proofs.Common.{◌≡◌, ◌≤◌, vec_items, vec_capacity}
-use Rattle.checking.proofs.PromiseLaws.{blocks}
+use Rattle.checking.proofs.BlockLaws.{blocks}
 use Rattle.checking.proofs.search.promises.add_phase.Given as goal
 
 abbrev pub invariant-loop-set : goal.invariant-loop-set

@@ -1,4 +1,4 @@
-use Rattle.checking.proofs.PromiseLaws.{Raised}
+use Rattle.checking.proofs.BlockLaws.{Raised}
 use Rattle.std.proofs.Common.{◌≡◌, vec_items, vec_len, vec_capacity}
 use Rattle.checking.proofs.search.promises.raise.Given as goal
 

@@ -2,4 +2,4 @@ use Rattle.checking.proofs.VerdictLaws.{controls_by}
 use Rattle.checking.proofs.search.player.Player.controls.Goals as goal
 
 pub returns : goal.returns
-returns c = controls_by c.args.self.now.snapshot c.args.table.now c.args.deal.now c.args.side c.settle.new.self c.settle.ensures c.start.result c.entry.result c.start.ensures c.entry.ensures
+returns c = rw c.ranks_start.ensures (controls_by c.args.self.now.snapshot c.args.table.now c.args.deal.now c.args.side c.settle.new.self c.settle.ensures)
