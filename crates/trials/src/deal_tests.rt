@@ -2,6 +2,7 @@ use crate::samples::PHASES;
 use games::deal::talk::{Talk, TalkFault};
 use games::deal::{Deal, Terms};
 use reading::phase_table::PhaseTable;
+use std::process::Abort;
 use std::test::Fail;
 
 /// How a talk ends: the refusal's number, phase and side, or zeros where a deal is signed.
@@ -81,50 +82,33 @@ fn two_phases(rt: HostRuntime) {
     assert_eq!(rt; told(&table, (33, 51), (51, 17)), (20, 65535, 2));
 }
 
-#[test]
-fn deal_says(rt: HostRuntime) -> Result<(), Fail> {
+/// A deal over two phases, of one signal with two.
+fn deal(rt: &impl Abort) -> Result<Deal, Fail> {
     let mut table = PhaseTable::new();
     assert!(rt; table.read(&PHASES).is_ok());
-    let Ok(deal) = signed(&table, (17, 51), (35, 17)) else {
-        return Err(Fail::new("refused"));
-    };
+    signed(&table, (17, 51), (35, 17)).map_err(|_| Fail::new("refused"))
+}
+
+#[test]
+fn deal_says(rt: HostRuntime) -> Result<(), Fail> {
+    let deal = deal(&rt)?;
     assert_eq!(rt;
         (deal.phases(), deal.signals(0), deal.signals(1)),
         (2, 1, 2)
     );
-    assert_eq!(rt;
-        (
-            deal.promise(0),
-            deal.reliance(0),
-            deal.promise(1),
-            deal.reliance(1),
-        ),
-        (17, 51, 35, 17)
-    );
-    assert_eq!(rt;
-        (
-            deal.promises(1, 0, 0),
-            deal.promises(1, 0, 1),
-            deal.promises(1, 1, 0),
-        ),
-        (true, true, false)
-    );
-    assert_eq!(rt;
-        (
-            deal.promises(1, 1, 1),
-            deal.promises(1, 0, 5),
-            deal.promises(1, 2, 0),
-        ),
-        (true, false, false)
-    );
-    assert_eq!(rt;
-        (
-            deal.relies(0, 1, 0),
-            deal.relies(0, 1, 2),
-            deal.relies(1, 0, 0),
-        ),
-        (true, false, true)
-    );
+    assert_eq!(rt; (deal.promise(0), deal.reliance(0)), (17, 51));
+    assert_eq!(rt; (deal.promise(1), deal.reliance(1)), (35, 17));
+    Ok(())
+}
+
+#[test]
+fn deal_has_signals(rt: HostRuntime) -> Result<(), Fail> {
+    let deal = deal(&rt)?;
+    assert!(rt; deal.promises(1, 0, 0) && deal.promises(1, 0, 1));
+    assert!(rt; deal.promises(1, 1, 1) && !deal.promises(1, 1, 0));
+    assert!(rt; !deal.promises(1, 0, 5) && !deal.promises(1, 2, 0));
+    assert!(rt; deal.relies(0, 1, 0) && !deal.relies(0, 1, 2));
+    assert!(rt; deal.relies(1, 0, 0));
     Ok(())
 }
 

@@ -143,7 +143,16 @@ fn side_1(rt: HostRuntime) -> Result<(), Fail> {
     says(&rt, rt.alloc(), &case, text)
 }
 
-/// The first that is refused is told: machine sheet, rule sheet, phase table, terms, record.
+/// What is told of a damaged machine sheet, rule sheet and phase table, of terms that do not meet, and of a damaged record.
+const DAMAGED: [&str; 5] = [
+    "refused 1 at byte 7\nThe machine sheet is refused: it is shorter than its fixed fields. Pass the whole of it.\n",
+    "refused 1 at byte 3\nThe rule sheet is refused: it is shorter than its fixed fields. Pass the whole of it.\n",
+    "refused 4 at byte 5\nThe phase table is refused: an entry is out of its range. Put a value in range there.\n",
+    "refused 21\nIn phase 0 side 0 promises more than side 1 relies on. Let it promise less there, or the other rely on more.\n",
+    "refused 1 at byte 0\nThe record is refused: it is shorter than its fixed fields. Pass the whole of it.\n",
+];
+
+/// The first that is refused is told: each case is damaged in what the one after it is, too.
 #[test]
 fn refused_sheets(rt: HostRuntime) -> Result<(), Fail> {
     let unread = toggle(&[]);
@@ -166,29 +175,9 @@ fn refused_sheets(rt: HostRuntime) -> Result<(), Fail> {
         machine: &TOGGLE[0..7],
         ..ruled
     };
-    for (case, text) in [
-        (
-            machined,
-            "refused 1 at byte 7\nThe machine sheet is refused: it is shorter than its fixed fields. Pass the whole of it.\n",
-        ),
-        (
-            ruled,
-            "refused 1 at byte 3\nThe rule sheet is refused: it is shorter than its fixed fields. Pass the whole of it.\n",
-        ),
-        (
-            tabled,
-            "refused 4 at byte 5\nThe phase table is refused: an entry is out of its range. Put a value in range there.\n",
-        ),
-        (
-            apart,
-            "refused 21\nIn phase 0 side 0 promises more than side 1 relies on. Let it promise less there, or the other rely on more.\n",
-        ),
-        (
-            unread,
-            "refused 1 at byte 0\nThe record is refused: it is shorter than its fixed fields. Pass the whole of it.\n",
-        ),
-    ] {
-        says(&rt, rt.alloc(), &case, text)?;
+    let cases = [machined, ruled, tabled, apart, unread];
+    for (case, text) in cases.iter().zip(DAMAGED) {
+        says(&rt, rt.alloc(), case, text)?;
     }
     Ok(())
 }
