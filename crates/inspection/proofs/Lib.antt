@@ -1,2 +1,3 @@
 mod TallyLaws
+mod NameLaws
 mod Examples

@@ -1,5 +1,6 @@
--- How an argument names a kind of sheet.
-use Rattle.std.specs.Prelude.{ℕ, ◌≤◌, List, Some, None, codes, Option}
+-- What the words after the program's name ask for.
+use Rattle.std.specs.Prelude.{◌≡◌, ℕ, ◌≤◌, List, [], ◌∷◌, Option, Some, None, MatchOption, codes}
+use Rattle.std.specs.Str.Parse.{IsNumeral, digits_value, without_leading_plus}
 use Rattle.inspection.specs.declared.kinds.Kind.{Kind}
 use Rattle.inspection.specs.declared.kinds.Kind.TheVariants.{Machine, Marks, Rule, Phases, Record}
 use Rattle.inspection.specs.declared.kinds.Request.{Request}
@@ -21,19 +22,18 @@ number (Rule n) = Some n
 number Phases = None
 number Record = None
 
--- a number of states that a machine can have
-abbrev pub Size : ℕ → Type 0
-Size n = (1 ≤ n) × (n ≤ 256)
+-- a word writes a number of states that a machine can have, in decimal digits with a plus before them or without
+pub record Counts (digits : List ℕ) (n : ℕ) : Type 0 where
+  pub numeral : IsNumeral 10 (without_leading_plus digits)
+  pub value : n ≡ digits_value 10 (without_leading_plus digits)
+  pub least : 1 ≤ n
+  pub most : n ≤ 256
 
--- a kind is for a machine that there can be
-abbrev pub Sized : Kind → Type 0
-Sized Machine = Unit {0}
-Sized (Marks n) = Size n
-Sized (Rule n) = Size n
-Sized Phases = Unit {0}
-Sized Record = Unit {0}
-
--- what is asked for can be told
-abbrev pub Asked : Request → Type 0
-Asked Help = Unit {0}
-Asked (Sheet kind) = Sized kind
+-- the words ask for the usage, or for a sheet of a kind: its name, and its number of states where it takes one
+abbrev pub Asks : List (List ℕ) → Request → Type 0
+Asks [] request = ⊥
+Asks (name ∷ []) Help = name ≡ codes "--help"
+Asks (name ∷ []) (Sheet kind) = (name ≡ word kind) × (number kind ≡ None)
+Asks (name ∷ count ∷ []) Help = ⊥
+Asks (name ∷ count ∷ []) (Sheet kind) = (name ≡ word kind) × MatchOption (number kind) ⊥ (Counts count)
+Asks (name ∷ count ∷ more ∷ rest) request = ⊥

@@ -1,5 +1,5 @@
--- The first fault of a sheet of any kind, and the text that tells it.
-use Rattle.std.specs.Prelude.{◌≡◌, ℕ, List, [], ◌∷◌, ◌++◌, length, Some, None, Option, nat_le}
+-- The first fault of a sheet of any kind, and the text that tells it or else what the sheet means.
+use Rattle.std.specs.Prelude.{◌≡◌, ℕ, List, [], ◌∷◌, ◌++◌, length, codes, Some, None, Option, nat_le}
 use Rattle.reading.specs.Firsts.{first_some, unless}
 use Rattle.reading.specs.Faults.{Fault, fault, length_place, printed}
 use Rattle.reading.specs.MachineSheets.{sheet_in, machine_fault}
@@ -31,7 +31,19 @@ abbrev pub Refuses : Fault → List ℕ → Type 0
 Refuses f text =
     (why : List ℕ) × (text ≡ printed f ++ (10 ∷ (why ++ 10 ∷ [])))
 
--- a text tells the fault, if there is one
-abbrev pub Tells : Option Fault → List ℕ → Type 0
-Tells None text = Unit {0}
-Tells (Some f) text = Refuses f text
+-- what the text of a lawful sheet begins with
+abbrev pub title : Kind → List ℕ
+title Machine = codes "machine sheet"
+title (Marks n) = codes "mark sheet"
+title (Rule n) = codes "rule sheet"
+title Phases = codes "phase table"
+title Record = codes "controller record"
+
+-- a text has a title, in a line by itself
+abbrev pub Titled : List ℕ → List ℕ → Type 0
+Titled title text = (rest : List ℕ) × (text ≡ title ++ (10 ∷ rest))
+
+-- a text tells the fault, if there is one, and else has the title; none of the titles begins as a refusal does
+abbrev pub Tells : List ℕ → Option Fault → List ℕ → Type 0
+Tells title None text = Titled title text
+Tells title (Some f) text = Refuses f text

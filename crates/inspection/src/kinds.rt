@@ -1,6 +1,8 @@
-ghost use Rattle.std.specs.Prelude.{◌≡◌, IfSome, Some};
+ghost use Rattle.std.specs.Prelude.{◌≡◌, ℕ, map, string_bytes, IfSome, Some};
 ghost use Rattle.inspection.specs.declared.kinds.Kind.{Kind};
-ghost use Rattle.inspection.specs.Names.{word, number, Size, Asked};
+ghost use Rattle.inspection.specs.declared.kinds.Request.{Request};
+ghost use Rattle.inspection.specs.Names.{word, number, Counts, Asks};
+ghost use Rattle.inspection.specs.Refusals.{title};
 
 /// The kinds of sheets; marks and rules are for a machine of so many states.
 #[derive(Clone, Copy, PartialEq, Eq, Debug)]
@@ -19,9 +21,10 @@ pub enum Request {
     Sheet(Kind),
 }
 
-/// A number of states that a machine can have.
+/// The number of states that the digits write, if a machine can have so many.
 fn states(digits: &str) -> Option<u16>
-    ensures { IfSome result Size }
+    ensures sound { IfSome result (Counts digits.now) }
+    ensures complete { (n : ℕ) → Counts digits.now n → result ≡ Some n }
 {
     digits.parse().ok().filter(|n| (1..=256).contains(n))
 }
@@ -41,12 +44,26 @@ impl Kind {
             _ => None,
         }
     }
+
+    /// What the text of such a sheet begins with.
+    pub(crate) fn title(self) -> &'static str
+        ensures { result.now ≡ title self }
+    {
+        match self {
+            Kind::Machine => "machine sheet",
+            Kind::Marks(_) => "mark sheet",
+            Kind::Rule(_) => "rule sheet",
+            Kind::Phases => "phase table",
+            Kind::Record => "controller record",
+        }
+    }
 }
 
 impl Request {
     /// What the words ask for, if they ask for anything.
     pub fn parse(words: &[String]) -> Option<Request>
-        ensures { IfSome result Asked }
+        ensures sound { IfSome result (Asks (map string_bytes words.now)) }
+        ensures complete { (request : Request) → Asks (map string_bytes words.now) request → result ≡ Some request }
     {
         let kind = match words {
             [name] if name.as_str() == "--help" => return Some(Request::Help),

@@ -13,3 +13,4 @@ mod records;
 mod refusals;
 mod rule;
 pub mod sheets;
+mod titles;

@@ -90,7 +90,7 @@ fn write_heading<W: Write>(
 pub(crate) fn write<W: Write>(f: &mut Formatter<W>, sheet: &MachineSheet<'_>) -> fmt::Result {
     let sizes = FrameWords(sheet.frame());
     let moves = sheet.moves();
-    writeln!(f, "machine sheet\n{sizes}moves            {moves:>4}\n")?;
+    writeln!(f, "{sizes}moves            {moves:>4}\n")?;
     let mut from = 0;
     for state in 0..sheet.frame().states {
         // Moves stand in the order of their states, so one walk meets them all.

@@ -1,10 +1,11 @@
-ghost use Rattle.std.specs.Prelude.{IfOk, string_bytes};
+ghost use Rattle.std.specs.Prelude.{IfOk, codes, string_bytes};
 ghost use Rattle.games.specs.Lifts.{lift_fault};
 ghost use Rattle.inspection.specs.Refusals.{Tells, product_fault};
 
 use crate::frame_words::FrameWords;
 use crate::kinds::Kind;
 use crate::refusals::{Sentence, refusal};
+use crate::titles::titled;
 use games::lift::Lift;
 use games::machine::{Game, Machine, frame};
 use games::sheet_machine::SheetMachine;
@@ -72,7 +73,7 @@ impl WatchedWords<'_> {
 impl fmt::Display for WatchedWords<'_> {
     fn fmt<W: Write>(&self, f: &mut Formatter<W>) -> fmt::Result {
         let sizes = FrameWords(frame(self.0));
-        writeln!(f, "machine watched by an automaton\n{sizes}")?;
+        writeln!(f, "{sizes}")?;
         for state in 0..self.0.states() {
             self.write_state(f, state)?;
         }
@@ -88,7 +89,7 @@ impl fmt::Display for LiftWords<'_> {
     fn fmt<W: Write>(&self, f: &mut Formatter<W>) -> fmt::Result {
         let lift = self.0;
         let sizes = FrameWords(frame(lift));
-        writeln!(f, "lift\n{sizes}")?;
+        writeln!(f, "{sizes}")?;
         for state in 0..lift.states() {
             let floor = state / 2;
             let load = if state % 2 == 0 { "empty" } else { "loaded" };
@@ -102,10 +103,10 @@ impl fmt::Display for LiftWords<'_> {
 
 /// A lift of so many floors, for a partner with so many signals, or why there is none.
 pub fn lift(heap: Global, floors: u8, signals: u8) -> Result<String, AllocError>
-    ensures { IfOk result (λ text. Tells (lift_fault floors signals) (string_bytes text)) }
+    ensures { IfOk result (λ text. Tells (codes "lift") (lift_fault floors signals) (string_bytes text)) }
 {
     match Lift::new(floors, signals) {
-        Ok(lift) => LiftWords(&lift).to_string(heap),
+        Ok(lift) => titled(heap, "lift", LiftWords(&lift)),
         Err(fault @ ReadFault::Field(0)) => refusal(heap, fault, "A lift has 2 to 32 floors."),
         Err(fault) => refusal(heap, fault, "A lift has 2 to 4 partner signals."),
     }
@@ -113,7 +114,7 @@ pub fn lift(heap: Global, floors: u8, signals: u8) -> Result<String, AllocError>
 
 /// A machine sheet watched by a rule sheet, or why the first of them that is refused is.
 pub fn product(heap: Global, machine: &[u8], rule: &[u8]) -> Result<String, AllocError>
-    ensures { IfOk result (λ text. Tells (product_fault machine.now rule.now) (string_bytes text)) }
+    ensures { IfOk result (λ text. Tells (codes "machine watched by an automaton") (product_fault machine.now rule.now) (string_bytes text)) }
 {
     let mut below = SheetMachine::new(heap)?;
     if let Err(fault) = below.load(machine) {
@@ -124,5 +125,5 @@ pub fn product(heap: Global, machine: &[u8], rule: &[u8]) -> Result<String, Allo
     if let Err(fault) = game.watch(rule) {
         return refusal(heap, fault, Sentence::new(Kind::Rule(states), rule, fault));
     }
-    WatchedWords(&game).to_string(heap)
+    titled(heap, "machine watched by an automaton", WatchedWords(&game))
 }

@@ -66,7 +66,7 @@ fn write_set<W: Write>(f: &mut Formatter<W>, sheet: &MarkSheet, mark: Mark) -> f
 
 /// The marked states, forbidden ones first.
 pub(crate) fn write<W: Write>(f: &mut Formatter<W>, sheet: &MarkSheet) -> fmt::Result {
-    writeln!(f, "mark sheet\n")?;
+    writeln!(f)?;
     write_set(f, sheet, Mark::Forbidden)?;
     write_set(f, sheet, Mark::Goal)
 }

@@ -4,8 +4,7 @@ use std::fmt::{self, Formatter, Write};
 fn write_sizes<W: Write>(f: &mut Formatter<W>, table: &PhaseTable) -> fmt::Result {
     writeln!(
         f,
-        "phase table\n\
-         phases             {}\n\
+        "phases             {}\n\
          signals of side 0  {}\n\
          signals of side 1  {}\n\n\
          next phase, by the signals of side 0 (rows) and side 1 (columns)",

@@ -15,8 +15,7 @@ fn write_row<W: Write>(f: &mut Formatter<W>, record: &Record<'_>, at: Position) 
 fn write_sizes<W: Write>(f: &mut Formatter<W>, record: &Record<'_>) -> fmt::Result {
     writeln!(
         f,
-        "controller record\n\
-         states   {:>3}\n\
+        "states   {:>3}\n\
          phases   {:>3}\n\
          signals  {:>3}\n",
         record.states, record.phases, record.signals

@@ -34,7 +34,7 @@ fn write_row<W: Write>(f: &mut Formatter<W>, sheet: &RuleSheet, state: u8) -> fm
 
 /// The automaton as a table: a row for each state, a column for each label.
 pub(crate) fn write<W: Write>(f: &mut Formatter<W>, sheet: &RuleSheet) -> fmt::Result {
-    writeln!(f, "rule sheet\nstates            {}", sheet.states())?;
+    writeln!(f, "states            {}", sheet.states())?;
     write_forbidden(f, sheet)?;
     writeln!(
         f,

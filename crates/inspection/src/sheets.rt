@@ -1,9 +1,10 @@
 ghost use Rattle.std.specs.Prelude.{◌≡◌, IfOk, string_bytes};
 ghost use Rattle.reading.specs.Faults.{told};
-ghost use Rattle.inspection.specs.Refusals.{sheet_fault, Tells};
+ghost use Rattle.inspection.specs.Refusals.{sheet_fault, title, Tells};
 
 use crate::kinds::Kind;
 use crate::refusals::{Sentence, refusal};
+use crate::titles::titled;
 use crate::{machine, marks, phases, records, rule};
 use reading::bytes::length_place;
 use reading::faults::{ReadFault, check};
@@ -18,7 +19,7 @@ use std::fmt;
 /// Longer input is refused unread.
 pub const LIMIT: usize = 40_000;
 
-/// A sheet that was read; its `Display` says what it means.
+/// A sheet that was read; its `Display` says what it means, under its title.
 #[derive(Clone, Copy)]
 enum Sheet<'a> {
     Machine(MachineSheet<'a>),
@@ -59,10 +60,10 @@ impl fmt::Display for Sheet<'_> {
 
 /// What a sheet means, or why it is refused, in words.
 pub fn inspect(heap: Global, kind: Kind, bytes: &[u8]) -> Result<String, AllocError>
-    ensures { IfOk result (λ text. Tells (sheet_fault kind bytes.now) (string_bytes text)) }
+    ensures { IfOk result (λ text. Tells (title kind) (sheet_fault kind bytes.now) (string_bytes text)) }
 {
     match Sheet::read(kind, bytes) {
-        Ok(sheet) => sheet.to_string(heap),
+        Ok(sheet) => titled(heap, kind.title(), sheet),
         Err(fault) => refusal(heap, fault, Sentence::new(kind, bytes, fault)),
     }
 }

@@ -30,7 +30,7 @@ a value that does not apply is 65535, side 2 is neither; what the numbers of a r
   12-19  the record does not keep what it promises: check_record says more; solve it anew
   20     terms that name no signal, or one that there is not, in some phase: name some of those that there are
   21     a promise beyond what the partner relies on: let it promise less, or the partner rely on more
-  30     the record says nothing of the state in which its machine stands: offer it elsewhere
+  30     the record says nothing of the state in which its machine stands: offer it when the machine stands in one that it keeps
   31     its machine would have to wait longer than it was told: offer it at a goal
   32     a report before any offer was accepted: offer tables first
   33     a state to which the machine cannot have come: look where it is

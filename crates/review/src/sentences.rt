@@ -13,10 +13,10 @@ const SIZES: &str = "The side or the sizes of machine, table and deal do not fit
 
 const RECORD_SIZES: &str = "The sizes of the record do not fit machine and table";
 
-/// What to do about a record that is no ranked controller.
-fn remedy(fault: CheckFault) -> &'static str {
-    match fault {
-        CheckFault::Reading(_) => "Pass the record as it was written.",
+/// What to do about a record that is no ranked controller; that of one that cannot be read stands with its fault.
+fn remedy(fault: CheckFault) -> Option<&'static str> {
+    Some(match fault {
+        CheckFault::Reading(_) => return None,
         CheckFault::Sizes =>
             "Name side 0 or 1, and a machine and a table whose signals are the same.",
         CheckFault::RecordSizes => "Write the record for this machine and this table.",
@@ -29,7 +29,7 @@ fn remedy(fault: CheckFault) -> &'static str {
             "Choose a signal under which the machine can move, or rely on less.",
         CheckFault::NextAbsent { .. } => "Keep that position, or choose another signal.",
         CheckFault::NotLower { .. } => "Rank that position lower, or this one higher.",
-    }
+    })
 }
 
 /// That one of the four files is refused.
@@ -84,11 +84,13 @@ impl fmt::Display for Sentence<'_> {
             ),
             Refusal::Sheets(SheetsFault::Rule(fault)) => write_refused(f, "rule sheet", fault),
             Refusal::Table(fault) => write_refused(f, "phase table", fault),
-            Refusal::Check(CheckFault::Reading(fault)) => write_refused(f, "record", fault),
             Refusal::Terms(fault) => TermsSentence(fault).fmt(f),
             Refusal::Check(fault) => {
                 self.write_fault(f, fault)?;
-                write!(f, ". {}", remedy(fault))
+                match remedy(fault) {
+                    Some(remedy) => write!(f, ". {remedy}"),
+                    None => Ok(()),
+                }
             }
         }
     }
@@ -130,7 +132,7 @@ impl Sentence<'_> {
     /// What a check finds.
     fn write_fault<W: Write>(&self, f: &mut Formatter<W>, fault: CheckFault) -> fmt::Result {
         match fault {
-            CheckFault::Reading(_) => f.write_str("The record is refused"),
+            CheckFault::Reading(fault) => write_refused(f, "record", fault),
             CheckFault::Sizes => f.write_str(SIZES),
             CheckFault::RecordSizes => f.write_str(RECORD_SIZES),
             CheckFault::HalfKept(at) => {

@@ -19,7 +19,7 @@ fn meaning(fault: &CellFault) -> &'static str {
         CellFault::Checking { .. } =>
             "the new table does not keep what it promises (solve it anew)",
         CellFault::NotKept { .. } =>
-            "the new table says nothing of where it stands (offer it elsewhere)",
+            "the new table says nothing of where it stands (offer it when the machine stands in a state that it keeps)",
         CellFault::RankRises { .. } =>
             "it would have to wait longer than it was told (offer it at a goal)",
         CellFault::Idle => "there is no table yet (offer one first)",
