@@ -1,6 +1,5 @@
 use crate::faults::BayFault;
 use games::deal::signing::Unsigned;
-use games::deal::talk::TalkFault;
 use games::watched::sheets::SheetsFault;
 use reading::words::RefusedSheet;
 use std::fmt::{self, Formatter, Write};
@@ -11,21 +10,20 @@ pub struct TermsSentence(pub Unsigned);
 
 impl fmt::Display for TermsSentence {
     fn fmt<W: Write>(&self, f: &mut Formatter<W>) -> fmt::Result {
-        let side = self.0.side();
         match self.0 {
-            Unsigned::Signing(TalkFault::TooFar { phase, .. }) => {
+            Unsigned::NotTerms { side } => {
+                write!(f, "The terms of side {side} are not as described. ")?;
+                f.write_str(
+                    "Name for each phase some of the signals that there are, and nothing else.",
+                )
+            }
+            Unsigned::TooFar { phase, side } => {
                 let other = if side == 0 { 1 } else { 0 };
                 write!(
                     f,
                     "In phase {phase} side {side} promises more than side {other} relies on. "
                 )?;
                 f.write_str("Let it promise less there, or the other rely on more.")
-            }
-            _ => {
-                write!(f, "The terms of side {side} are not as described. ")?;
-                f.write_str(
-                    "Name for each phase some of the signals that there are, and nothing else.",
-                )
             }
         }
     }

@@ -1,5 +1,5 @@
 -- What a cell shows, and what its calls do to the log that it shows.
-use Rattle.std.specs.Prelude.{◌≡◌, ℕ, ◌+◌, ◌-◌, ◌^◌, min, Bool, cond, List, [], ◌∷◌, ◌++◌, length, map, take, drop, Some, None, Option, Result, vec_items}
+use Rattle.std.specs.Prelude.{◌≡◌, ℕ, ◌+◌, ◌-◌, ◌^◌, min, Bool, cond, List, [], ◌∷◌, ◌++◌, length, map, take, drop, Some, None, Option, Result, IfErr, vec_items}
 use Rattle.std.specs.Option.{option_map}
 use Rattle.std.specs.Result.{result_map_both, result_err}
 use Rattle.reading.specs.Records.{parts_in, bound_of}
@@ -89,8 +89,17 @@ pub record Passed (m : Model) (k : Marks) (o : Offering) (side bound : ℕ) : Ty
 abbrev pub seen : {A B : Type 0} → Cell A B → Log
 seen c = shown c.mode c.copies
 
+-- a refused call and a question leave a cell as it was
+abbrev pub Stays : {A B : Type 0} → Answer → Cell A B → Cell A B → Type 0
+Stays (answer.Offered r) x y = IfErr r (λ _. y ≡ x)
+Stays (answer.Reported r) x y = IfErr r (λ _. y ≡ x)
+Stays (answer.States s) x y = y ≡ x
+Stays (answer.Phase p) x y = y ≡ x
+Stays (answer.Waits w) x y = y ≡ x
+Stays (answer.Signals s) x y = y ≡ x
+Stays (answer.Ranks r) x y = y ≡ x
+
 module _ {A B : Type 0} (m0 : A → Model) (k0 : A → Marks) (m1 : B → Model) (k1 : B → Marks) where
-  -- what the games of a cell mean
   -- what two games mean
   abbrev pub both_mean : A → B → Games
   both_mean x y = record { machines = both (m0 x) (m1 y); marks = both (k0 x) (k1 y) }

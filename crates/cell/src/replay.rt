@@ -1,5 +1,5 @@
 ghost use Rattle.std.specs.Prelude.{◌≡◌, map};
-ghost use Rattle.cell.specs.Cells.{both_mean, offering, owned, event, told, Heard, Fills};
+ghost use Rattle.cell.specs.Cells.{both_mean, offering, owned, event, told, Heard, Stays, Fills};
 
 use crate::calls::{Answer, Call, Offer, OwnedOffer};
 use crate::cell::{Cell, Room};
@@ -25,7 +25,8 @@ impl OwnedOffer {
 impl<A: Game + Drop, B: Game + Drop> Cell<A, B> {
     /// The answer to a call.
     pub fn hear(&mut self, call: &Call) -> Answer
-        ensures { Heard A.Machine.meaning A.Game.marks B.Machine.meaning B.Game.marks self.old (event call.now) (told result) self.new }
+        ensures heard { Heard A.Machine.meaning A.Game.marks B.Machine.meaning B.Game.marks self.old (event call.now) (told result) self.new }
+        ensures unchanged { Stays result self.old self.new }
     {
         match call {
             Call::Offer(offer) => Answer::Offered(self.offer(offer.as_offer())),

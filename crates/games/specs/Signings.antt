@@ -8,9 +8,8 @@ use Rattle.reading.specs.declared.sizes.Sizes.{Sizes}
 use Rattle.games.specs.declared.deal.Terms.{Terms}
 use Rattle.games.specs.declared.deal.Deal.{Deal}
 use Rattle.games.specs.declared.deal.signing.Unsigned.{Unsigned}
-use Rattle.games.specs.declared.deal.signing.Unsigned.TheVariants.{Bid, Reply, Signing}
+use Rattle.games.specs.declared.deal.signing.Unsigned.TheVariants.{NotTerms, TooFar}
 use Rattle.games.specs.Deals.{Refusal, terms_fault, first_gap}
-use Rattle.games.specs.Deals.{numbers as talk_numbers}
 
 -- a refusal of a side's own terms is about that side
 abbrev pub about : ℕ → Refusal → Refusal
@@ -18,9 +17,8 @@ about side r = record { number = r.number; phase = r.phase; side = side }
 
 -- number, phase and side of each case; every promise about these refusals reads this definition
 abbrev pub numbers : Unsigned → Refusal
-numbers (Bid f) = about 0 (talk_numbers f)
-numbers (Reply f) = about 1 (talk_numbers f)
-numbers (Signing f) = talk_numbers f
+numbers (NotTerms s) = record { number = 20; phase = 65535; side = s }
+numbers (TooFar p s) = record { number = 21; phase = p; side = s }
 
 -- the refusal in an answer, none where there is a deal
 abbrev pub refused : {A : Type 0} → Result A Unsigned → Option Refusal

@@ -6,13 +6,18 @@ use Rattle.reading.specs.declared.sides.Sides.{Sides}
 use Rattle.games.specs.declared.deal.Terms.{Terms}
 use Rattle.checking.specs.Searching.{both}
 use Rattle.checking.specs.declared.faults.SolveFault.TheVariants.{NoController}
-use Rattle.planning.specs.Plans.{terms_line, early_line}
+use Rattle.reading.specs.declared.faults.ReadFault.TheVariants.{Short}
+use Rattle.games.specs.Signings.{numbers}
+use Rattle.games.specs.declared.deal.signing.Unsigned.TheVariants.{NotTerms, TooFar}
+use Rattle.bays.specs.declared.faults.BayFault.TheVariants.{Lengths}
+use Rattle.planning.specs.declared.refusals.Refusal.TheVariants.{Bay, Terms as Unagreed}
+use Rattle.planning.specs.Plans.{line, terms_fault, Planned}
 use Rattle.planning.specs.Lines.{state_lines, table_lines, plan_lines}
 
--- an empty input is told whatever the terms
-empty : (s : Sides Terms) → early_line [] s ≡ Some (codes "refused 1 at byte 0")
+-- an empty input is refused whatever the terms, and so printed
+empty : (s : Sides Terms) → Planned [] s (Err (Bay (Lengths (Short 0)))) × (line (Bay (Lengths (Short 0))) ≡ codes "refused 1 at byte 0")
 unfolding digits
-empty s = refl
+empty s = (refl, refl)
 
 abbrev terms : ℕ → ℕ → Terms
 terms x y = record { promise = x; reliance = y }
@@ -22,11 +27,12 @@ abbrev one_phase : Table
 one_phase = record { phases = 1; signals0 = 2; signals1 = 2; entries = [] }
 
 -- terms that are agreed; too much is promised; terms that are not as described come before that
-deals : (terms_line one_phase (both (terms 2 2) (terms 2 2)) ≡ None)
-    × (terms_line one_phase (both (terms 3 2) (terms 2 2)) ≡ Some (codes "refused 21"))
-    × (terms_line one_phase (both (terms 3 2) (terms 0 2)) ≡ Some (codes "refused 20"))
+deals : (terms_fault one_phase (both (terms 2 2) (terms 2 2)) ≡ None)
+    × (terms_fault one_phase (both (terms 3 2) (terms 2 2)) ≡ Some (numbers (TooFar 0 0)))
+    × (terms_fault one_phase (both (terms 3 2) (terms 0 2)) ≡ Some (numbers (NotTerms 1)))
+    × (line (Unagreed (NotTerms 1)) ≡ codes "refused 20")
 unfolding digits
-deals = (refl, refl, refl)
+deals = (refl, refl, refl, refl)
 
 -- of four states and one phase, signal 1 everywhere: ranks 1, 0, 2 and none
 record_bytes : List ℕ

@@ -1,5 +1,5 @@
 -- Plans where nothing is refused before solving.
-use Rattle.std.proofs.Common.{◌≡◌, ℕ, List, None, refl, subst}
+use Rattle.std.proofs.Common.{◌≡◌, ℕ, List, None, subst}
 use Rattle.reading.specs.RuleSheets.{Automaton, automaton_in, automaton_of}
 use Rattle.reading.specs.PhaseTables.{Table, table_in}
 use Rattle.reading.specs.declared.phase_table.PhaseTable.{PhaseTable}
@@ -15,7 +15,7 @@ use Rattle.bays.specs.declared.bay.Bay.{Bay}
 use Rattle.bays.specs.Inputs.{parts_in}
 use Rattle.bays.specs.Bays.{Holds, bay_fault}
 use Rattle.planning.specs.declared.plans.Plan.{Plan}
-use Rattle.planning.specs.Plans.{terms_line, early_line, Answered, SidePlan, BothPlanned}
+use Rattle.planning.specs.Plans.{terms_fault, Answered, SidePlan, BothPlanned}
 
 -- a plan over the machine and the automaton that were read
 side_plan : (xs ys : List ℕ) (m : Model) (a : Automaton) (t : PhaseTable) (d : Deal) (side : ℕ) (p : Plan) →
@@ -29,16 +29,16 @@ pub planned : (xs : List ℕ) (s : Sides Terms) (b : Bay) (d : Deal) (p q : Plan
     signing_fault b.table.sizes.phases b.table.sizes.signals.first b.table.sizes.signals.second s ≡ None → Dealt b.table.sizes s d →
     Answered (watched (machine_of b.games.first.below) (automaton_of b.games.first.rule)) (watch_marks (machine_of b.games.first.below) (automaton_of b.games.first.rule)) b.table d 0 p →
     Answered (watched (machine_of b.games.second.below) (automaton_of b.games.second.rule)) (watch_marks (machine_of b.games.second.below) (automaton_of b.games.second.rule)) b.table d 1 q →
-    (early_line xs s ≡ None) × BothPlanned xs s (record { sides = record { first = p; second = q } })
-planned xs s b d p q e h f g x y =
-    let t : terms_line (table_in (parts_in xs).table) s ≡ None = subst (λ (z : Table). terms_line z s ≡ None) h.table (rw f refl) in (
-      rw (e, t) refl,
-      record {
-        table = b.table;
-        deal = d;
-        read = h.table;
-        dealt = g;
-        first = side_plan (parts_in xs).machine0 (parts_in xs).rule0 (machine_of b.games.first.below) (automaton_of b.games.first.rule) b.table d 0 p h.first.machine h.first.rule x;
-        second = side_plan (parts_in xs).machine1 (parts_in xs).rule1 (machine_of b.games.second.below) (automaton_of b.games.second.rule) b.table d 1 q h.second.machine h.second.rule y;
-      },
-    )
+    (bay_fault xs ≡ None) × (terms_fault (table_in (parts_in xs).table) s ≡ None) × BothPlanned xs s (record { sides = record { first = p; second = q } })
+planned xs s b d p q e h f g x y = (
+  e,
+  subst (λ (z : Table). terms_fault z s ≡ None) h.table f,
+  record {
+    table = b.table;
+    deal = d;
+    read = h.table;
+    dealt = g;
+    first = side_plan (parts_in xs).machine0 (parts_in xs).rule0 (machine_of b.games.first.below) (automaton_of b.games.first.rule) b.table d 0 p h.first.machine h.first.rule x;
+    second = side_plan (parts_in xs).machine1 (parts_in xs).rule1 (machine_of b.games.second.below) (automaton_of b.games.second.rule) b.table d 1 q h.second.machine h.second.rule y;
+  },
+)

@@ -1,7 +1,5 @@
 -- What is planned from an input and both sides' terms: the first refusal, or what solving answers for each side.
 use Rattle.std.specs.Prelude.{◌≡◌, ℕ, List, [], ◌∷◌, ◌++◌, replicate, codes, decimal, vec_items, Some, None, Ok, Err, Option, Result}
-use Rattle.std.specs.Option.{option_map}
-use Rattle.reading.specs.Firsts.{first_some}
 use Rattle.reading.specs.Faults.{printed}
 use Rattle.reading.specs.RuleSheets.{automaton_in}
 use Rattle.reading.specs.PhaseTables.{Table, table_in, table_of}
@@ -17,7 +15,7 @@ use Rattle.games.specs.Signings.{Dealt, signing_fault}
 use Rattle.games.specs.Signings.{numbers as sign_numbers}
 use Rattle.checking.specs.Solutions.{Solves, record_size}
 use Rattle.bays.specs.Inputs.{parts_in}
-use Rattle.bays.specs.Bays.{Blame, blame, bay_fault}
+use Rattle.bays.specs.Bays.{blame, bay_fault}
 use Rattle.planning.specs.declared.refusals.Refusal.{Refusal}
 use Rattle.planning.specs.declared.refusals.Refusal.TheVariants.{Bay, Terms as Unagreed}
 use Rattle.planning.specs.declared.plans.Plan.{Plan}
@@ -32,15 +30,9 @@ line (Unagreed f) = codes "refused " ++ decimal (sign_numbers f).number
 abbrev pub Tells : List ℕ → List ℕ → Type 0
 Tells l text = (why : List ℕ) × (text ≡ l ++ (10 ∷ (why ++ 10 ∷ [])))
 
--- the first refusal of both sides' terms on a table, in print
-abbrev pub terms_line : Table → Sides Terms → Option (List ℕ)
-terms_line t s = option_map (λ (r : DealRefusal). codes "refused " ++ decimal r.number) (signing_fault t.phases t.signals0 t.signals1 s)
-
--- the first refusal before any solving: a part of the input, then the terms
-abbrev pub early_line : List ℕ → Sides Terms → Option (List ℕ)
-early_line xs s =
-    first_some (option_map (λ (b : Blame). printed b.fault) (bay_fault xs))
-    (terms_line (table_in (parts_in xs).table) s)
+-- the first refusal of both sides' terms on a table
+abbrev pub terms_fault : Table → Sides Terms → Option DealRefusal
+terms_fault t s = signing_fault t.phases t.signals0 t.signals1 s
 
 -- a plan is what solving answers, and its record what solving made of zeros
 pub record Answered (m : Model) (k : Marks) (t : PhaseTable) (d : Deal) (side : ℕ) (p : Plan) : Type 0 where
@@ -59,7 +51,8 @@ pub record BothPlanned (xs : List ℕ) (s : Sides Terms) (p : Plans) : Type 0 wh
   pub first : SidePlan (parts_in xs).machine0 (parts_in xs).rule0 table deal 0 p.sides.first
   pub second : SidePlan (parts_in xs).machine1 (parts_in xs).rule1 table deal 1 p.sides.second
 
--- what is planned: plans where nothing is refused before, else the first refusal
+-- what is planned: the parts of the input are read in turn, then both sides' terms are signed, then each side is planned for
 abbrev pub Planned : List ℕ → Sides Terms → Result Plans Refusal → Type 0
-Planned xs s (Ok p) = (early_line xs s ≡ None) × BothPlanned xs s p
-Planned xs s (Err f) = early_line xs s ≡ Some (line f)
+Planned xs s (Err (Bay f)) = bay_fault xs ≡ Some (blame f)
+Planned xs s (Err (Unagreed f)) = (bay_fault xs ≡ None) × (terms_fault (table_in (parts_in xs).table) s ≡ Some (sign_numbers f))
+Planned xs s (Ok p) = (bay_fault xs ≡ None) × (terms_fault (table_in (parts_in xs).table) s ≡ None) × BothPlanned xs s p

@@ -1,13 +1,15 @@
 -- Examples that the definitions compute.
 use Rattle.std.proofs.Common.{◌≡◌, ℕ, List, [], ◌∷◌, replicate, codes, Some, None, Ok, Err, refl}
 use Rattle.std.specs.Fmt.{digits}
+use Rattle.reading.specs.Faults.{fault}
 use Rattle.reading.specs.declared.faults.ReadFault.TheVariants.{Entry}
+use Rattle.bays.specs.Bays.{at}
 use Rattle.checking.specs.Searching.{both}
 use Rattle.cell.specs.Faults.{bare}
 use Rattle.cell.specs.Logs.{to_offer, to_report, waits}
 use Rattle.recordings.specs.declared.recording.Mark.TheVariants.{Put, Unread}
 use Rattle.recordings.specs.Calls.{quad, report_at, call_end, call_fault}
-use Rattle.recordings.specs.Damages.{spot}
+use Rattle.recordings.specs.Damages.{spot, bay_spot}
 use Rattle.recordings.specs.Recordings.{head_fault}
 use Rattle.recordings.specs.Lines.{line, lines, unsigned_line}
 
@@ -34,8 +36,8 @@ damaged : (call_fault (3 ∷ 4 ∷ []) 0 ≡ None)
     × (call_fault (2 ∷ 0 ∷ 0 ∷ []) 0 ≡ Some (spot 1 3))
 damaged = (refl, refl, refl, refl)
 
--- no length; a bay of ten bytes that say that each sheet is empty: the first of them would begin at byte 12
-heads : (head_fault [] ≡ Some (spot 1 0)) × (head_fault (10 ∷ 0 ∷ replicate 10 0) ≡ Some (spot 1 12))
+-- no length; a bay of ten bytes that say that each sheet is empty: side 0's machine sheet is refused, which would begin at byte 12
+heads : (head_fault [] ≡ Some (spot 1 0)) × (head_fault (10 ∷ 0 ∷ replicate 10 0) ≡ Some (bay_spot (at 1 (fault 1 0)) 12))
 heads = (refl, refl)
 
 -- answers in print

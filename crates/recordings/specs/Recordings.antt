@@ -18,7 +18,7 @@ use Rattle.cell.specs.Cells.{Replayed}
 use Rattle.recordings.specs.declared.damage.Damage.{Damage}
 use Rattle.recordings.specs.declared.recording.Mark.{Mark}
 use Rattle.recordings.specs.declared.recording.Recording.{Recording}
-use Rattle.recordings.specs.Damages.{Spot, spot, numbers, printed}
+use Rattle.recordings.specs.Damages.{Spot, spot, bay_spot, numbers, printed}
 use Rattle.recordings.specs.Calls.{part, part_end}
 use Rattle.recordings.specs.Marks.{Recorded, events, puts}
 use Rattle.recordings.specs.Lines.{lines}
@@ -41,8 +41,8 @@ start_in xs (suc (suc (suc (suc zero)))) = 10 + size_in xs 0 + size_in xs 1 + si
 start_in xs (suc (suc (suc (suc (suc n))))) = 10 + size_in xs 0 + size_in xs 1 + size_in xs 2 + size_in xs 3
 
 -- a fault of the bay, placed in the whole input
-abbrev pub bay_spot : List ℕ → Blame → Spot
-bay_spot xs b = spot b.fault.number (2 + start_in xs b.part + b.fault.place)
+abbrev pub placed : List ℕ → Blame → Spot
+placed xs b = bay_spot b (2 + start_in xs b.part + b.fault.place)
 
 -- the input ends inside the length or the bay
 abbrev pub short_fault : List ℕ → Option Spot
@@ -50,7 +50,7 @@ short_fault xs = unless (nat_le (calls_at xs) (length xs)) (spot 1 (length xs))
 
 -- the damage before the calls: the input is too short, its bay is refused
 abbrev pub head_fault : List ℕ → Option Spot
-head_fault xs = first_some (short_fault xs) (option_map (bay_spot (bay_in xs)) (bay_fault (bay_in xs)))
+head_fault xs = first_some (short_fault xs) (option_map (placed (bay_in xs)) (bay_fault (bay_in xs)))
 
 -- the games of a bay: each side's machine sheet, watched by its rule sheet
 abbrev pub games_in : Parts → Games

@@ -5,7 +5,7 @@ ghost use Rattle.cell.specs.Cells.{event};
 ghost use Rattle.recordings.specs.Calls.{offer as an_offer, offer_said, call_said};
 ghost use Rattle.recordings.specs.Damages.{refused};
 ghost use Rattle.recordings.specs.Marks.{Adds, Keeps, Owned, Recorded, events};
-ghost use Rattle.recordings.specs.Recordings.{Reads, GamesRead, bay_in, bay_spot, short_fault, start_in};
+ghost use Rattle.recordings.specs.Recordings.{Reads, GamesRead, bay_in, placed, short_fault, start_in};
 
 use crate::calls::{OfferBytes, RecordedCall};
 use crate::damage::Damage;
@@ -172,7 +172,7 @@ fn read_games(
     machines: Sides<SheetMachine>,
     bay: &[u8],
 ) -> Result<Sides<Watched<SheetMachine>>, Damage>
-    ensures first { refused result ≡ option_map (bay_spot bay.now) (bay_fault bay.now) }
+    ensures first { refused result ≡ option_map (placed bay.now) (bay_fault bay.now) }
     ensures value { IfOk result (GamesRead bay.now) }
 {
     match Bay::read(machines, bay) {

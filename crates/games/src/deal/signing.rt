@@ -1,4 +1,5 @@
 ghost use Rattle.std.specs.Prelude.{◌≡◌, ◌++◌, Some, IfOk, codes, decimal};
+ghost use Rattle.games.specs.Deals.{numbers as talk_numbers};
 ghost use Rattle.games.specs.Signings.{Dealt, numbers, refused, signing_fault};
 
 use crate::deal::talk::{Talk, TalkFault};
@@ -8,26 +9,33 @@ use reading::sides::Sides;
 use std::error::Error;
 use std::fmt;
 
-/// Why both sides' terms make no deal: the step of the talk that is refused, with its fault.
+/// Why both sides' terms make no deal.
 #[derive(Clone, Copy, PartialEq, Eq, Debug)]
 pub enum Unsigned {
-    /// Side 0's terms.
-    Bid(TalkFault),
-    /// Side 1's terms.
-    Reply(TalkFault),
-    /// Both sides' terms together.
-    Signing(TalkFault),
+    /// This side's terms are not as described.
+    NotTerms { side: u8 },
+    /// At a phase, this side promises more than the other relies on.
+    TooFar { phase: u8, side: u8 },
 }
 
 impl Unsigned {
+    /// The fault of a talk that could not be signed.
+    fn at_signing(fault: TalkFault) -> Unsigned
+        ensures { numbers result ≡ talk_numbers fault }
+    {
+        match fault {
+            TalkFault::NotTerms => Unsigned::NotTerms { side: fault.side() },
+            TalkFault::TooFar { phase, side } => Unsigned::TooFar { phase, side },
+        }
+    }
+
     /// The refusal's number.
     pub fn number(&self) -> u8
         ensures { result ≡ (numbers self.now).number }
     {
-        match self {
-            Unsigned::Bid(fault) | Unsigned::Reply(fault) | Unsigned::Signing(fault) => {
-                fault.number()
-            }
+        match *self {
+            Unsigned::NotTerms { .. } => 20,
+            Unsigned::TooFar { .. } => 21,
         }
     }
 
@@ -35,10 +43,9 @@ impl Unsigned {
     pub fn phase(&self) -> u16
         ensures { result ≡ (numbers self.now).phase }
     {
-        match self {
-            Unsigned::Bid(fault) | Unsigned::Reply(fault) | Unsigned::Signing(fault) => {
-                fault.phase()
-            }
+        match *self {
+            Unsigned::NotTerms { .. } => 65535,
+            Unsigned::TooFar { phase, .. } => u16::from(phase),
         }
     }
 
@@ -46,10 +53,8 @@ impl Unsigned {
     pub fn side(&self) -> u8
         ensures { result ≡ (numbers self.now).side }
     {
-        match self {
-            Unsigned::Bid(_) => 0,
-            Unsigned::Reply(_) => 1,
-            Unsigned::Signing(fault) => fault.side(),
+        match *self {
+            Unsigned::NotTerms { side } | Unsigned::TooFar { side, .. } => side,
         }
     }
 }
@@ -72,18 +77,18 @@ pub fn sign(table: &PhaseTable, terms: Sides<Terms>) -> Result<Deal, Unsigned>
 {
     // what comes back is closed, and bound whole before it is taken apart
     let bid = Talk::open(table).bid(terms.first).map_err(|back| {
-        let (talk, fault) = back;
+        let (talk, _) = back;
         talk.close();
-        Unsigned::Bid(fault)
+        Unsigned::NotTerms { side: 0 }
     })?;
     let reply = bid.reply(terms.second).map_err(|back| {
-        let (bid, fault) = back;
+        let (bid, _) = back;
         bid.close();
-        Unsigned::Reply(fault)
+        Unsigned::NotTerms { side: 1 }
     })?;
     reply.sign().map_err(|back| {
         let (talk, fault) = back;
         talk.close();
-        Unsigned::Signing(fault)
+        Unsigned::at_signing(fault)
     })
 }

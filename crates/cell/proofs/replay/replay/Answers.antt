@@ -14,7 +14,7 @@ loop-i-preserved g c =
     let called : i < length c.args.calls.now = omega (arith, c.min-count.ensures, c.loop-i-test.true) in
     let old : i < length c.args.answers.now = omega (arith, c.min-count.ensures, c.loop-i-test.true) in
     let room : i < length c.loop-i.answers = omega (arith, old, inv.1.1) in (
-      going_next _ _ _ _ c.args.first c.args.second c.args.calls.now i c.loop-i.answers c.loop-i.cell c.hear.new.self c.index-calls-i.result a called room c.index-calls-i.is inv.0 c.hear.ensures,
+      going_next _ _ _ _ c.args.first c.args.second c.args.calls.now i c.loop-i.answers c.loop-i.cell c.hear.new.self c.index-calls-i.result a called room c.index-calls-i.is inv.0 c.hear.ensures.heard,
       (
         drop-set-lt (i + 1) c.loop-i.answers i a (omega arith) ∙ same_rest c.loop-i.answers c.args.answers.now i a room old inv.1.0,
         length-set c.loop-i.answers i a ∙ inv.1.1,
