@@ -35,3 +35,5 @@ pub mod shown;
 mod solving_tests;
 #[cfg(test)]
 mod tables_tests;
+#[cfg(test)]
+mod words_tests;

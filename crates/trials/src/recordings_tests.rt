@@ -4,7 +4,12 @@ use std::alloc::Global;
 use std::test::Fail;
 
 /// A recording over the bay of two watched toggles, with one byte of the bay changed. The calls begin at place 143.
-fn recording(heap: Global, place: usize, byte: u8, calls: &[u8]) -> Result<Vec<u8>, Fail> {
+pub(crate) fn recording(
+    heap: Global,
+    place: usize,
+    byte: u8,
+    calls: &[u8],
+) -> Result<Vec<u8>, Fail> {
     let mut bytes = Vec::new(heap);
     bytes.extend_from_slice(&[141, 0])?;
     bytes.extend_from_slice(bay(heap, place, byte)?.as_slice())?;
