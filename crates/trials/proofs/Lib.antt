@@ -1,3 +1,4 @@
+pub mod Played
 pub mod Showing
 pub mod SolvingShown
 pub mod SearchingShown

@@ -1,43 +1,27 @@
 -- What a cell of two toggles answers, call by call.
-use Rattle.std.proofs.Common.{◌≡◌, ℕ, ◌<◌, true, None, Ok, Err, Some, refl, ap, ◌∙◌, arith}
+use Rattle.std.proofs.Common.{◌≡◌, ℕ, ◌<◌, None, Ok, Err, Some, refl, ap, ◌∙◌, arith}
 use Rattle.std.specs.Option.{option_map}
 use Rattle.reading.specs.declared.phase_table.PhaseTable.{PhaseTable}
 use Rattle.reading.specs.PhaseTables.{table_of, next_phase}
 use Rattle.games.specs.declared.deal.Deal.{Deal}
-use Rattle.games.specs.Signings.{Dealt}
-use Rattle.checking.specs.Arenas.{suits}
 use Rattle.checking.specs.Checks.{check_fault}
-use Rattle.checking.specs.Searching.{both, terms_of}
+use Rattle.checking.specs.Searching.{both}
 use Rattle.checking.proofs.PlayLaws.{follow_low}
 use Rattle.cell.specs.Faults.{bare, about}
 use Rattle.cell.specs.Logs.{Log, Offering, to_offer, to_report, first, signals, moved, answers_offer, answers_report, all_answers}
-use Rattle.trials.specs.Toggles.{watched_toggle, toggle_marks}
-use Rattle.trials.specs.Checks.{bay, ranked}
-use Rattle.trials.specs.Searches.{OnePhase}
+use Rattle.trials.specs.Toggles.{watched_toggle, toggle_marks, ranked, Meets}
 use Rattle.trials.specs.Replays.{two_toggles, calls, answered, Replaying}
-use Rattle.trials.proofs.SearchingShown.{played}
-use Rattle.trials.proofs.Steps.{passes, only_changes, accepts, refuses, comes, stays, moves_on, stands, Goes, answers_by, filled}
+use Rattle.trials.proofs.Played.{plan_alone}
+use Rattle.trials.proofs.Steps.{only_changes, accepts, refuses, comes, stays, moves_on, stands, Goes, answers_by, filled}
 use Rattle.trials.proofs.Steps.Goes.{ends, goes}
 
-module _ (t : PhaseTable) (d : Deal) (o : OnePhase t) (on : Dealt t.sizes (terms_of (both 2 2)) d) where
-  fits0 : suits watched_toggle t d 0 ≡ true
-  fits0 = rw (on.sizes, o.phases, o.first, o.second) refl
-
-  fits1 : suits watched_toggle t d 1 ≡ true
-  fits1 = rw (on.sizes, o.phases, o.first, o.second) refl
-
+module _ (t : PhaseTable) (d : Deal) (m : Meets 2 t d) where
   -- ranks 5 0 6 0 pass on both sides, and so do the solved ranks
-  high0 : check_fault watched_toggle toggle_marks t d 0 (ranked 5 0 6 0) ≡ None
-  high0 = passes watched_toggle toggle_marks t d 0 (ranked 5 0 6 0) bay fits0 refl (rw o.phases refl) (played t o 0 d on) refl
+  high_passes : (side : ℕ) → side < 2 → check_fault watched_toggle toggle_marks t d side (ranked 5 0 6 0) ≡ None
+  high_passes side l = plan_alone 2 t d m side (ranked 5 0 6 0) l refl (rw m.one_phase.phases refl) ∙ refl
 
-  high1 : check_fault watched_toggle toggle_marks t d 1 (ranked 5 0 6 0) ≡ None
-  high1 = passes watched_toggle toggle_marks t d 1 (ranked 5 0 6 0) bay fits1 refl (rw o.phases refl) (played t o 1 d on) refl
-
-  least0 : check_fault watched_toggle toggle_marks t d 0 (ranked 1 0 2 0) ≡ None
-  least0 = passes watched_toggle toggle_marks t d 0 (ranked 1 0 2 0) bay fits0 refl (rw o.phases refl) (played t o 0 d on) refl
-
-  least1 : check_fault watched_toggle toggle_marks t d 1 (ranked 1 0 2 0) ≡ None
-  least1 = passes watched_toggle toggle_marks t d 1 (ranked 1 0 2 0) bay fits1 refl (rw o.phases refl) (played t o 1 d on) refl
+  least_passes : (side : ℕ) → side < 2 → check_fault watched_toggle toggle_marks t d side (ranked 1 0 2 0) ≡ None
+  least_passes side l = plan_alone 2 t d m side (ranked 1 0 2 0) l refl (rw m.one_phase.phases refl) ∙ refl
 
   abbrev high : Offering
   high = record { table = t; deal = d; records = both (ranked 5 0 6 0) (ranked 5 0 6 0) }
@@ -50,13 +34,13 @@ module _ (t : PhaseTable) (d : Deal) (o : OnePhase t) (on : Dealt t.sizes (terms
   standing s x = record { at = record { states = both s s; phase = 0; waits = both 0 0; bounds = both 6 6 }; force = Some x }
 
   begins : answers_offer two_toggles (first two_toggles) high ≡ Ok (both 6 6)
-  begins = accepts two_toggles (first two_toggles) high (only_changes two_toggles (first two_toggles) high (ap (option_map (about 0)) high0) (ap (option_map (about 1)) high1))
+  begins = accepts two_toggles (first two_toggles) high (only_changes two_toggles (first two_toggles) high (ap (option_map (about 0)) (high_passes 0 (omega arith))) (ap (option_map (about 1)) (high_passes 1 (omega arith))))
 
   changes : answers_offer two_toggles (standing 0 high) least ≡ Ok (both 2 2)
-  changes = accepts two_toggles (standing 0 high) least (only_changes two_toggles (standing 0 high) least (ap (option_map (about 0)) least0) (ap (option_map (about 1)) least1))
+  changes = accepts two_toggles (standing 0 high) least (only_changes two_toggles (standing 0 high) least (ap (option_map (about 0)) (least_passes 0 (omega arith))) (ap (option_map (about 1)) (least_passes 1 (omega arith))))
 
   rises : answers_offer two_toggles (standing 0 least) high ≡ Err (bare 31 0)
-  rises = refuses two_toggles (standing 0 least) high (bare 31 0) (only_changes two_toggles (standing 0 least) high (ap (option_map (about 0)) high0) (ap (option_map (about 1)) high1))
+  rises = refuses two_toggles (standing 0 least) high (bare 31 0) (only_changes two_toggles (standing 0 least) high (ap (option_map (about 0)) (high_passes 0 (omega arith))) (ap (option_map (about 1)) (high_passes 1 (omega arith))))
 
   moves_wrong : answers_report two_toggles (standing 0 least) (both 0 3) ≡ Err (bare 33 0)
   unfolding answers_report
@@ -68,7 +52,7 @@ module _ (t : PhaseTable) (d : Deal) (o : OnePhase t) (on : Dealt t.sizes (terms
   next = ap (λ p. record { at = record { states = both 3 3; phase = p; waits = both 0 0; bounds = both 6 6 }; force = Some least }) (alone (next_phase (table_of t) 0 1 1) (follow_low t 0 0 1 1))
     where
       alone : (p : ℕ) → p < t.sizes.phases → p ≡ 0
-      alone p h = omega (arith, h, o.phases)
+      alone p h = omega (arith, h, m.one_phase.phases)
 
   turns : answers_report two_toggles (standing 0 least) (both 3 3) ≡ Ok (both 1 1)
   unfolding answers_report
@@ -89,5 +73,5 @@ module _ (t : PhaseTable) (d : Deal) (o : OnePhase t) (on : Dealt t.sizes (terms
 pub replaying_shown : Replaying
 replaying_shown = record {
   by_log = by_log;
-  by_cell = λ t d old new count o on six f. filled two_toggles (calls t d) answered old new count six (by_log t d o on) f;
+  by_cell = λ t d old new count m six f. filled two_toggles (calls t d) answered old new count six (by_log t d m) f;
 }

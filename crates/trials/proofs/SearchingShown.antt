@@ -1,6 +1,5 @@
 -- The first workable deal of two toggles: none of the four candidates before it is workable, and it is.
-use Rattle.std.proofs.Common.{◌≡◌, ℕ, zero, suc, ◌-◌, ◌<◌, Bool, true, List, [], ◌∷◌, length, get_or, None, Ok, Err, Result, sym, refl, ap, ◌∙◌, subst, inl, inr, arith}
-use mathlib.Core.Path.{fun_ext}
+use Rattle.std.proofs.Common.{◌≡◌, ℕ, zero, suc, ◌-◌, ◌<◌, true, List, [], ◌∷◌, length, get_or, Some, None, Ok, Err, Result, sym, refl, ap, ◌∙◌, subst, inl, inr, arith}
 use Rattle.std.proofs.lemmas.Bool.{cases_lt, true≢false}
 use Rattle.reading.specs.Bytes.{within}
 use Rattle.reading.specs.declared.sides.Sides.{Sides}
@@ -10,42 +9,24 @@ use Rattle.games.specs.Sets.{width, has}
 use Rattle.games.proofs.SetLaws.{in_words}
 use Rattle.games.specs.declared.deal.Deal.{Deal}
 use Rattle.games.specs.declared.deal.Terms.{Terms}
-use Rattle.games.specs.Machines.{forbidden_in, goal_in}
 use Rattle.games.specs.Signings.{Dealt}
 use Rattle.checking.specs.declared.faults.SearchFault.{SearchFault}
 use Rattle.checking.specs.declared.faults.SearchFault.TheVariants as fault
 use Rattle.checking.specs.declared.search.Agreement.{Agreement}
-use Rattle.checking.specs.Arenas.{Arena, arena, promised, relied, follow}
+use Rattle.checking.specs.Arenas.{arena, relied}
 use Rattle.checking.specs.Controllers.{Controlled}
 use Rattle.checking.specs.Searching.{both, promises, candidates, candidate, how_many, terms_of, search_head, Searches, Workable, NoneBefore}
 use Rattle.checking.proofs.CandidateLaws.{candidate_deal}
 use Rattle.checking.proofs.SearchingLaws.{untold}
-use Rattle.checking.proofs.PlayLaws.{follow_low}
-use Rattle.trials.specs.Toggles.{watched_toggle, toggle_marks}
-use Rattle.trials.specs.Checks.{bay}
-use Rattle.trials.specs.Searches.{toggles, toggles_marks, OnePhase, Finds, Searching}
+use Rattle.trials.specs.Toggles.{watched_toggle, toggle_marks, OnePhase, Meets}
+use Rattle.trials.specs.Searches.{toggles, toggles_marks, Finds, Refuses, Searching}
+use Rattle.trials.proofs.Played.{stays_put, played}
 use Rattle.trials.proofs.SolvingShown.{plan, controls}
 
 -- three promises each way: signal 0, signal 1, both
 three : promises 1 2 ≡ 1 ∷ 2 ∷ 3 ∷ []
 unfolding promises
 three = refl
-
--- what is played with the watched toggle
-abbrev playing_with : ℕ → (ℕ → ℕ → Bool) → (ℕ → ℕ → Bool) → (ℕ → ℕ → ℕ → ℕ) → Arena
-playing_with n f g h = record {
-  states = watched_toggle.states;
-  phases = n;
-  start = watched_toggle.start;
-  own = watched_toggle.own;
-  partner = watched_toggle.partner;
-  promised = f;
-  relied = g;
-  follow = h;
-  move = watched_toggle.move;
-  forbidden = forbidden_in watched_toggle toggle_marks;
-  goal = goal_in watched_toggle toggle_marks;
-}
 
 module _ (t : PhaseTable) (o : OnePhase t) where
   nine : candidates t.sizes ≡ both 1 1 ∷ both 1 2 ∷ both 1 3 ∷ both 2 1 ∷ both 2 2 ∷ both 2 3 ∷ both 3 1 ∷ both 3 2 ∷ both 3 3 ∷ []
@@ -57,10 +38,6 @@ module _ (t : PhaseTable) (o : OnePhase t) where
   at : (i : ℕ) (c : Sides ℕ) → get_or (both 1 1 ∷ both 1 2 ∷ both 1 3 ∷ both 2 1 ∷ both 2 2 ∷ both 2 3 ∷ both 3 1 ∷ both 3 2 ∷ both 3 3 ∷ []) i (both 0 0) ≡ c → candidate t.sizes i ≡ c
   at i c e = ap (λ (cs : List (Sides ℕ)). get_or cs i (both 0 0)) nine ∙ e
 
-  -- the one phase follows itself
-  stays : (side p x b : ℕ) → follow t side p x b ≡ 0
-  stays side p x b = omega (arith, follow_low t side p x b, o.phases)
-
   -- a deal on a candidate under which side 0 can be kept in state 0, whatever it shows
   stuck : (c : Sides ℕ) (b : ℕ) (d : Deal) → Dealt t.sizes (terms_of c) d → has width c.second 0 b ≡ true → ((x : ℕ) → has width c.first 0 x ≡ true → watched_toggle.move 0 x b 0 ≡ true) →
       Controlled (arena watched_toggle toggle_marks t d 0) → ⊥
@@ -70,7 +47,7 @@ module _ (t : PhaseTable) (o : OnePhase t) where
       let p : has width c.first 0 x ≡ true = ap (λ (s : Sides Terms). has width s.first.promise 0 x) (sym on.terms) ∙ w.promised in
       let r : relied d 0 0 b ≡ true = ap (λ (s : Sides Terms). has width s.first.reliance 0 b) on.terms ∙ relies in
       let f = w.falls b 0 r (moves x p) refl in
-      omega (arith, ap (y.0.rank 0) (stays 0 0 x b), f)
+      omega (arith, ap (y.0.rank 0) (stays_put t o 0 0 x b), f)
 
   -- the one signal of a promise
   zero_alone : (x : ℕ) → has width 1 0 x ≡ true → x ≡ 0
@@ -89,21 +66,12 @@ module _ (t : PhaseTable) (o : OnePhase t) where
   lost (suc (suc (suc zero))) d h on = stuck (both 2 1) 0 d (rw (at 3 (both 2 1) refl) at on) refl (λ x e. rw (one_alone x e) refl)
   lost (suc (suc (suc (suc i)))) d h on = absurd (omega (arith, h))
 
-  playing : (side : ℕ) (f g : ℕ → ℕ → Bool) → f ≡ has width 2 → g ≡ has width 2 → playing_with (t.sizes.phases) f g (follow t side) ≡ bay
-  playing side f g e h =
-      ap (λ n. playing_with n f g (follow t side)) o.phases ∙ ap (λ k. playing_with 1 k g (follow t side)) e ∙ ap (λ k. playing_with 1 (has width 2) k (follow t side)) h
-      ∙ ap (playing_with 1 (has width 2) (has width 2)) (fun_ext (λ p. fun_ext (λ x. fun_ext (λ b. stays side p x b))))
-
-  -- what a side plays under the fifth is what its solved record was made for
-  pub played : (side : ℕ) (d : Deal) → Dealt t.sizes (terms_of (both 2 2)) d → arena watched_toggle toggle_marks t d side ≡ bay
-  played zero d on = playing 0 (promised d 0) (relied d 0) (ap (λ (s : Sides Terms). has width s.first.promise) on.terms) (ap (λ (s : Sides Terms). has width s.first.reliance) on.terms)
-  played (suc n) d on = playing (suc n) (promised d 1) (relied d 1) (ap (λ (s : Sides Terms). has width s.second.promise) on.terms) (ap (λ (s : Sides Terms). has width s.second.reliance) on.terms)
-
   -- so both sides have controllers there
   won : (d : Deal) → Dealt t.sizes (terms_of (candidate t.sizes 4)) d → Workable toggles toggles_marks t d
   won d on =
       let e : Dealt t.sizes (terms_of (both 2 2)) d = rw (at 4 (both 2 2) refl) at on in
-      record { first = subst Controlled (sym (played 0 d e)) (plan, controls); second = subst Controlled (sym (played 1 d e)) (plan, controls) }
+      let m : Meets 2 t d = record { one_phase = o; dealt = e } in
+      record { first = subst Controlled (sym (played 2 t d m 0)) (plan, controls); second = subst Controlled (sym (played 2 t d m 1)) (plan, controls) }
 
   -- with a fifth try it is found
   not_beyond : (n : ℕ) → 4 < n → NoneBefore toggles toggles_marks t n → ⊥
@@ -129,12 +97,12 @@ module _ (t : PhaseTable) (o : OnePhase t) where
   found (Err (fault.Untried n)) w = absurd (omega (arith, w.more, count))
   found (Err (fault.NoDeal n)) w = not_beyond n (omega (arith, w.all, count)) w.none
 
-  spent : (r : Result Agreement SearchFault) → Searches toggles toggles_marks t 4 r → r ≡ Err (fault.Untried 4)
+  spent : (r : Result Agreement SearchFault) → Searches toggles toggles_marks t 4 r → Refuses 26 4 r
   spent (Ok a) w = absurd (lost (a.tries - 1) a.deal (omega (arith, w.allowed, w.some)) w.dealt w.workable.first)
   spent (Err fault.Sizes) w = absurd (not_some (sym w ∙ untold_yet 4 refl))
   spent (Err fault.Allowance) w = absurd (not_some (sym w ∙ untold_yet 4 refl))
   spent (Err fault.TooMany) w = absurd (not_some (sym w ∙ untold_yet 4 refl))
-  spent (Err (fault.Untried n)) w = ap (λ i. Err (fault.Untried i)) w.all
+  spent (Err (fault.Untried n)) w = (refl, ap Some w.all)
   spent (Err (fault.NoDeal n)) w = absurd (omega (arith, w.all, w.allowed, count))
 
 pub searching_shown : Searching

@@ -1,18 +1,8 @@
 -- What a log answers, step by step.
-use Rattle.std.proofs.Common.{◌≡◌, ℕ, zero, suc, ◌<◌, true, List, [], ◌∷◌, length, map, take, Some, None, Ok, Err, sym, refl, ap, ◌∙◌, subst, arith}
-use Rattle.std.specs.Option.{option_map}
+use Rattle.std.proofs.Common.{◌≡◌, ℕ, zero, suc, ◌<◌, List, [], ◌∷◌, length, map, take, Some, None, Ok, Err, sym, refl, ap, ◌∙◌, subst, arith}
 use Rattle.std.proofs.lemmas.List.{take_all}
 use Rattle.reading.specs.declared.sides.Sides.{Sides}
-use Rattle.reading.specs.declared.phase_table.PhaseTable.{PhaseTable}
-use Rattle.reading.specs.Records.{parts_in, record_fault}
-use Rattle.reading.proofs.FirstLaws.{of_none, of_right, unless_none, none_unless}
-use Rattle.games.specs.declared.deal.Deal.{Deal}
-use Rattle.games.specs.Machines.{Model, Marks}
-use Rattle.checking.specs.declared.faults.CheckFault.TheVariants.{Sizes, RecordSizes}
-use Rattle.checking.specs.Arenas.{Arena, arena, suits}
-use Rattle.checking.specs.Controllers.{plan_in}
-use Rattle.checking.specs.Checks.{sized, plan_fault, check_fault}
-use Rattle.checking.specs.Faults.{numbers, unread}
+use Rattle.reading.proofs.FirstLaws.{of_right, none_unless}
 use Rattle.cell.specs.declared.copies.Standing.{Standing}
 use Rattle.cell.specs.declared.calls.Answer.{Answer}
 use Rattle.cell.specs.Faults.{Refusal}
@@ -21,14 +11,6 @@ use Rattle.cell.specs.Law.{BothMove}
 use Rattle.cell.specs.Cells.{told, Fills}
 use Rattle.cell.proofs.AnswerLaws.{answer_moved, no_fault}
 use Rattle.cell.proofs.AnswerLaws.{accepts as answered, refuses as refused}
-
--- a record that passes in an arena passes the check that is made there
-pub passes : (m : Model) (k : Marks) (t : PhaseTable) (d : Deal) (side : ℕ) (xs : List ℕ) (a : Arena) → suits m t d side ≡ true → record_fault xs ≡ None → sized m t (parts_in xs) ≡ true →
-    arena m k t d side ≡ a → plan_fault a (plan_in xs) ≡ None → check_fault m k t d side xs ≡ None
-passes m k t d side xs a fits lawful size plays plan =
-    of_none _ _ (unless_none (suits m t d side) (numbers Sizes) fits)
-    (of_none _ _ (ap (option_map unread) lawful)
-    (of_none _ _ (unless_none (sized m t (parts_in xs)) (numbers RecordSizes) size) (ap (λ b. plan_fault b (plan_in xs)) plays ∙ plan)))
 
 -- an offer whose records pass is refused only for a change
 pub only_changes : (g : Games) (l : Log) (o : Offering) → offered_fault g o 0 ≡ None → offered_fault g o 1 ≡ None → offer_fault g l o ≡ changes_fault l.force l.at o

@@ -18,7 +18,7 @@ use Rattle.checking.specs.Arenas.{Arena, arena, suits, promised, relied}
 use Rattle.checking.specs.Checks.{check_fault}
 use Rattle.checking.specs.Searching.{both, terms_of}
 use Rattle.trials.specs.Witness.{follows, leader, follower, marks, table, promises, Stands, keeping}
-use Rattle.trials.proofs.Steps.{passes}
+use Rattle.trials.proofs.Played.{by_plan}
 
 pub lawful : (named : ℕ → ℕ → ℕ) → Lawful (follows named)
 lawful named = record {
@@ -110,16 +110,16 @@ module _ (t : PhaseTable) (d : Deal) (s : Stands t d) where
 
   -- the records of both offers pass
   pub high0 : check_fault leader marks t d 0 (keeping 0 1 5 3) ≡ None
-  high0 = passes leader marks t d 0 (keeping 0 1 5 3) (arena_by leader (table_in table) (terms_of promises) 0) fits0 refl (rw phases refl) (played leader 0) refl
+  high0 = by_plan leader marks t d 0 (keeping 0 1 5 3) (arena_by leader (table_in table) (terms_of promises) 0) fits0 refl (rw phases refl) (played leader 0)
 
   pub high1 : check_fault follower marks t d 1 (keeping 1 0 6 2) ≡ None
-  high1 = passes follower marks t d 1 (keeping 1 0 6 2) (arena_by follower (table_in table) (terms_of promises) 1) fits1 refl (rw phases refl) (played follower 1) refl
+  high1 = by_plan follower marks t d 1 (keeping 1 0 6 2) (arena_by follower (table_in table) (terms_of promises) 1) fits1 refl (rw phases refl) (played follower 1)
 
   pub low0 : check_fault leader marks t d 0 (keeping 0 1 3 1) ≡ None
-  low0 = passes leader marks t d 0 (keeping 0 1 3 1) (arena_by leader (table_in table) (terms_of promises) 0) fits0 refl (rw phases refl) (played leader 0) refl
+  low0 = by_plan leader marks t d 0 (keeping 0 1 3 1) (arena_by leader (table_in table) (terms_of promises) 0) fits0 refl (rw phases refl) (played leader 0)
 
   pub low1 : check_fault follower marks t d 1 (keeping 1 0 2 1) ≡ None
-  low1 = passes follower marks t d 1 (keeping 1 0 2 1) (arena_by follower (table_in table) (terms_of promises) 1) fits1 refl (rw phases refl) (played follower 1) refl
+  low1 = by_plan follower marks t d 1 (keeping 1 0 2 1) (arena_by follower (table_in table) (terms_of promises) 1) fits1 refl (rw phases refl) (played follower 1)
 
   -- what is promised and relied on
   pub promised0 : (p x : ℕ) → has width 33 p x ≡ true → promised d 0 p x ≡ true

@@ -2,15 +2,14 @@
 use Rattle.std.specs.Prelude.{◌≡◌, ℕ, List, [], ◌∷◌, length, map, Ok, Err}
 use Rattle.reading.specs.declared.phase_table.PhaseTable.{PhaseTable}
 use Rattle.games.specs.declared.deal.Deal.{Deal}
-use Rattle.games.specs.Signings.{Dealt}
-use Rattle.checking.specs.Searching.{both, terms_of}
+use Rattle.checking.specs.Searching.{both}
 use Rattle.cell.specs.declared.calls.Answer.{Answer}
 use Rattle.cell.specs.declared.calls.Question.TheVariants as question
 use Rattle.cell.specs.Faults.{bare}
 use Rattle.cell.specs.Logs.{Games, Event, Told, offered, reported, asked, to_offer, to_report, ranks_shown, first, all_answers}
 use Rattle.cell.specs.Cells.{told, Fills}
-use Rattle.trials.specs.Checks.{ranked}
-use Rattle.trials.specs.Searches.{toggles, toggles_marks, OnePhase}
+use Rattle.trials.specs.Toggles.{ranked, Meets}
+use Rattle.trials.specs.Searches.{toggles, toggles_marks}
 
 -- two watched toggles, one for each side
 abbrev pub two_toggles : Games
@@ -45,6 +44,6 @@ answered =
 
 -- so the log answers, and so does any cell of two toggles that the calls are put to, with room for six answers
 pub record Replaying : Type 0 where
-  pub by_log : (t : PhaseTable) (d : Deal) → OnePhase t → Dealt t.sizes (terms_of (both 2 2)) d → all_answers two_toggles (calls t d) (first two_toggles) ≡ answered
-  pub by_cell : (t : PhaseTable) (d : Deal) (old new : List Answer) (count : ℕ) → OnePhase t → Dealt t.sizes (terms_of (both 2 2)) d → length old ≡ 6
+  pub by_log : (t : PhaseTable) (d : Deal) → Meets 2 t d → all_answers two_toggles (calls t d) (first two_toggles) ≡ answered
+  pub by_cell : (t : PhaseTable) (d : Deal) (old new : List Answer) (count : ℕ) → Meets 2 t d → length old ≡ 6
       → Fills two_toggles (calls t d) old new count → map told new ≡ answered

@@ -2,9 +2,8 @@
 use Rattle.std.specs.Prelude.{◌≡◌, ℕ, true, false, Some, None}
 use Rattle.games.specs.Machines.{goal_in}
 use Rattle.games.specs.declared.deal.Terms.{Terms}
-use Rattle.games.specs.declared.deal.talk.TalkFault.TheVariants.{TooFar}
-use Rattle.games.specs.Terms.{are_terms}
-use Rattle.games.specs.Deals.{numbers, first_gap}
+use Rattle.games.specs.Signings.{signing_fault}
+use Rattle.checking.specs.Searching.{both}
 use Rattle.trials.specs.Toggles.{watched_toggle, toggle_marks}
 
 -- the watched toggle has 4 states, start 0 and goals 1 and 3; under signals 1 and 1 state 0 moves to 3 only
@@ -20,9 +19,8 @@ pub record WatchedToggle : Type 0 where
 abbrev pub terms : ℕ → ℕ → Terms
 terms promise reliance = record { promise = promise; reliance = reliance }
 
--- one phase, two signals each way: promise 2 with reliance 2 signs; promise 3 with reliance 2 is refused with 21, phase 0, side 0
+-- one phase, two signals each way: promise 2 with reliance 2 on both sides signs; promise 3 with reliance 2 is refused with 21, phase 0,
+-- side 0
 pub record Signing : Type 0 where
-  pub terms2 : are_terms 1 2 2 (terms 2 2) ≡ true
-  pub terms3 : are_terms 1 2 2 (terms 3 2) ≡ true
-  pub signs : first_gap 1 (terms 2 2) (terms 2 2) ≡ None
-  pub too_far : first_gap 1 (terms 3 2) (terms 3 2) ≡ Some (numbers (TooFar 0 0))
+  pub signs : signing_fault 1 2 2 (both (terms 2 2) (terms 2 2)) ≡ None
+  pub too_far : signing_fault 1 2 2 (both (terms 3 2) (terms 3 2)) ≡ Some (record { number = 21; phase = 0; side = 0 })

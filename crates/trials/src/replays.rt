@@ -4,8 +4,7 @@ ghost use Rattle.games.specs.WatchedSheets.{Plays};
 ghost use Rattle.checking.specs.Searching.{both, terms_of};
 ghost use Rattle.cell.specs.Logs.{reported};
 ghost use Rattle.cell.specs.Cells.{event, told};
-ghost use Rattle.trials.specs.Toggles.{toggle, rule};
-ghost use Rattle.trials.specs.Searches.{OnePhase};
+ghost use Rattle.trials.specs.Toggles.{toggle, rule, OnePhase};
 ghost use Rattle.trials.specs.Replays.{offer, calls, answered};
 
 use crate::samples::{RULE, TOGGLE};

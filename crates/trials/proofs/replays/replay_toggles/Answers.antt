@@ -44,4 +44,4 @@ returns c =
     let rest = blank in
     let heard = subst (λ (es : List Event). Fills g es rest c.replay.new.answers c.replay.result) c.in_ok-calls.ensures c.replay.ensures in
     let filled = subst (λ (h : Games). Fills h (calls c.one_phase-table.result c.on_signal_1-deal.result) rest c.replay.new.answers c.replay.result) play heard in
-    replaying_shown.by_cell c.one_phase-table.result c.on_signal_1-deal.result rest c.replay.new.answers c.replay.result c.one_phase-table.ensures c.on_signal_1-deal.ensures refl filled
+    replaying_shown.by_cell c.one_phase-table.result c.on_signal_1-deal.result rest c.replay.new.answers c.replay.result (record { one_phase = c.one_phase-table.ensures; dealt = c.on_signal_1-deal.ensures }) refl filled
