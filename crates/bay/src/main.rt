@@ -4,7 +4,7 @@
 use anyhow::bail;
 use console::input::{BAY_LIMIT, read_input};
 use console::words::ask_help;
-use negotiation::line::line;
+use negotiation::line::Answer;
 use negotiation::negotiator::Negotiator;
 use negotiation::words::Explained;
 use std::env;
@@ -30,8 +30,8 @@ fn main(rt: HostRuntime) -> anyhow::Result<()> {
         bail!("the bay is read from standard input");
     }
     let bytes = read_input(heap, rt.stdin(), BAY_LIMIT)?;
-    let outcome = Negotiator::new(heap)?.negotiate(bytes.as_slice());
-    rt.print(line(heap, &outcome)?)?;
+    let Answer { outcome, line } = Negotiator::new(heap)?.answer(bytes.as_slice());
+    rt.print(line.as_str())?;
     // the one line is for the machines that read it; whoever looks on is told why
     if let Err(refusal) = outcome {
         eprintln!(rt; "{}", Explained(refusal))?;

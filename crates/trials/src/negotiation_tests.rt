@@ -1,13 +1,12 @@
 use crate::planning_tests::bay;
-use negotiation::line::line;
+use negotiation::line::Line;
 use negotiation::negotiator::Negotiator;
 use std::alloc::Global;
 use std::test::Fail;
 
 /// The line for an input.
-fn told(heap: Global, bytes: &[u8]) -> Result<String, Fail> {
-    let outcome = Negotiator::new(heap)?.negotiate(bytes);
-    Ok(line(heap, &outcome)?)
+fn told(heap: Global, bytes: &[u8]) -> Result<Line, Fail> {
+    Ok(Negotiator::new(heap)?.answer(bytes).line)
 }
 
 #[test]
@@ -48,7 +47,7 @@ fn damaged_bays_are_refused(rt: HostRuntime) -> Result<(), Fail> {
 }
 
 /// The line for the first so many bytes of the bay of toggles.
-fn cut(heap: Global, size: usize) -> Result<String, Fail> {
+fn cut(heap: Global, size: usize) -> Result<Line, Fail> {
     let mut bytes = bay(heap, 141, 0)?;
     bytes.truncate(size);
     told(heap, bytes.as_slice())
