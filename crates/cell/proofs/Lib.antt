@@ -2,6 +2,7 @@ pub mod PlaceLaws
 pub mod RunLaws
 pub mod AnswerLaws
 pub mod LogLaws
+pub mod GoalLaws
 pub mod CallLaws
 pub mod OfferLaws
 pub mod AcceptedLaws

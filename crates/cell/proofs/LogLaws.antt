@@ -40,14 +40,14 @@ ranked o a (suc n) = refl
 
 module _ (g : Games) (o : Offering) (a : Standing) (h : BothRun g o a) where
   -- a side's choice serves at its position
-  choice_serves : (side : ℕ) → RunsAt g o a side → Serves (plays g o side) (plan_in (own side o.records)) (own side a.states) a.phase (choice_at (parts_in (own side o.records)) (own side a.states) a.phase)
+  pub choice_serves : (side : ℕ) → RunsAt g o a side → Serves (plays g o side) (plan_in (own side o.records)) (own side a.states) a.phase (choice_at (parts_in (own side o.records)) (own side a.states) a.phase)
   choice_serves side r = serves (plays g o side) (plan_in (own side o.records)) _ _ _ _ r
 
   -- what a side shows is promised by it and relied on by its partner
   shown_promised : (side : ℕ) → RunsAt g o a side → promised o.deal side a.phase (own side (signals_in (Some o) a)) ≡ true
   shown_promised side r = rw (shows o a side) ((choice_serves side r).promised)
 
-  shown_relied : (side : ℕ) → RunsAt g o a side → relied o.deal (pick side 1 0) a.phase (own side (signals_in (Some o) a)) ≡ true
+  pub shown_relied : (side : ℕ) → RunsAt g o a side → relied o.deal (pick side 1 0) a.phase (own side (signals_in (Some o) a)) ≡ true
   shown_relied side r =
       let low : a.phase < o.deal.sizes.phases = subst (λ (n : ℕ). a.phase < n) h.same (r.controller.rival.inside _ _ r.here).1 in
       agreed o.deal side a.phase _ low (shown_promised side r)

@@ -8,11 +8,11 @@ use Rattle.cell.specs.declared.cell.Cell.{Cell}
 use Rattle.cell.specs.declared.calls.Answer.{Answer}
 use Rattle.cell.specs.declared.calls.Call.{Call}
 use Rattle.cell.specs.Logs.{Games, Log, Event, Told, first, run, answers, after, all_answers}
-use Rattle.cell.specs.Law.{Lawful, Law}
 use Rattle.cell.specs.Running.{Good}
 use Rattle.cell.specs.Cells.{told, event, games, both_mean, Tells, Heard, Made, Replayed, Fills}
 use Rattle.cell.proofs.LogLaws.{lawful}
 use Rattle.cell.proofs.AcceptedLaws.{force_run, bounds_run}
+use Rattle.cell.proofs.GoalLaws.{in_time}
 
 -- one more call at the end
 all_more : (g : Games) (es : List Event) (e : Event) (l : Log) → all_answers g (es ++ e ∷ []) l ≡ all_answers g es l ++ answers g (run g es l) e ∷ []
@@ -65,48 +65,47 @@ module _ {A B : Type 0} (m0 : A → Model) (k0 : A → Marks) (m1 : B → Model)
     pub second_game : c.second ≡ y
     pub tells : Tells m0 k0 m1 k1 events c
     pub replayed : Replayed g events given
+    pub goods : (n : ℕ) → Good g (run g (take n events) (first g))
 
   same : (c : Cell A B) → c.first ≡ x → c.second ≡ y → games m0 k0 m1 k1 c ≡ g
   same c p q = ap (λ (a : A). both_mean m0 k0 m1 k1 a c.second) p ∙ ap (λ (b : B). both_mean m0 k0 m1 k1 x b) q
 
-  law_at : (events : List Event) (c : Cell A B) → c.first ≡ x → c.second ≡ y → Tells m0 k0 m1 k1 events c → Law g events
-  law_at events c p q t = record {
-    force = force_run g events (first g);
-    bounds = bounds_run g events (first g);
-    holds = subst (λ (b : Games). Lawful b (run b events (first b))) (same c p q) (lawful (games m0 k0 m1 k1 c) _ (subst (Good (games m0 k0 m1 k1 c)) t.same t.good));
+  good_at : (events : List Event) (c : Cell A B) → c.first ≡ x → c.second ≡ y → Tells m0 k0 m1 k1 events c → Good g (run g events (first g))
+  good_at events c p q t = subst (λ (b : Games). Good b (run b events (first b))) (same c p q) (subst (Good (games m0 k0 m1 k1 c)) t.same t.good)
+
+  -- what every log keeps is the law
+  replayed_by : (events : List Event) (given : List Told) → given ≡ all_answers g events (first g) → ((n : ℕ) → Good g (run g (take n events) (first g))) → Replayed g events given
+  replayed_by events given e goods = record {
+    answered = e;
+    law = λ n. record { force = force_run g (take n events) (first g); bounds = bounds_run g (take n events) (first g); holds = lawful g _ (goods n) };
+    in_time = in_time g events goods;
   }
 
   pub going_start : (c : Cell A B) → Made m0 k0 m1 k1 x y c → Going [] [] c
   unfolding all_answers
-  going_start c h = record {
-    first_game = h.first_game;
-    second_game = h.second_game;
-    tells = h.tells;
-    replayed = record {
-      answered = refl;
-      law = λ n. subst (λ (es : List Event). Law g es) (sym (take_none n)) (law_at [] c h.first_game h.second_game h.tells);
-    };
-  }
+  going_start c h =
+      let goods : (n : ℕ) → Good g (run g (take n []) (first g)) = λ n. subst (λ (es : List Event). Good g (run g es (first g))) (sym (take_none n)) (good_at [] c h.first_game h.second_game h.tells) in
+      record { first_game = h.first_game; second_game = h.second_game; tells = h.tells; replayed = replayed_by [] [] refl goods; goods = goods }
 
   pub going_more : (events : List Event) (given : List Told) (c d : Cell A B) (e : Event) (a : Told) → Going events given c → Heard m0 k0 m1 k1 c e a d → Going (events ++ e ∷ []) (given ++ a ∷ []) d
   going_more events given c d e a r h =
       let p : d.first ≡ x = h.first_game ∙ r.first_game in
       let q : d.second ≡ y = h.second_game ∙ r.second_game in
       let tells = h.tells events r.tells in
-      let whole = law_at (events ++ e ∷ []) d p q tells in
+      let whole = good_at (events ++ e ∷ []) d p q tells in
       let last : a ≡ answers g (run g events (first g)) e = subst (λ (b : Games). a ≡ answers b (run b events (first b)) e) (same c r.first_game r.second_game) (h.answered events r.tells) in
+      let goods : (n : ℕ) → Good g (run g (take n (events ++ e ∷ [])) (first g)) = λ n. elim (cases_lt (length events) n) [
+        | inl l ↦ subst (λ (es : List Event). Good g (run g es (first g))) (sym (take_past n (events ++ e ∷ []) (omega (arith, length-append events (e ∷ []))))) whole
+        | inr l ↦ subst (λ (es : List Event). Good g (run g es (first g))) (sym (take_within n events (e ∷ []) l)) (r.goods n)
+      ] in
       record {
         first_game = p;
         second_game = q;
         tells = tells;
-        replayed = record {
-          answered =
-              ap (λ (g : List Told). g ++ a ∷ []) r.replayed.answered ∙ ap (λ z. all_answers g events (first g) ++ z ∷ []) last ∙ sym (all_more g events e (first g));
-          law = λ n. elim (cases_lt (length events) n) [
-            | inl l ↦ subst (λ (es : List Event). Law g es) (sym (take_past n (events ++ e ∷ []) (omega (arith, length-append events (e ∷ []))))) whole
-            | inr l ↦ subst (λ (es : List Event). Law g es) (sym (take_within n events (e ∷ []) l)) (r.replayed.law n)
-          ];
-        };
+        replayed = replayed_by (events ++ e ∷ []) (given ++ a ∷ [])
+            (ap (λ (g : List Told). g ++ a ∷ []) r.replayed.answered ∙ ap (λ z. all_answers g events (first g) ++ z ∷ []) last ∙ sym (all_more g events e (first g)))
+            goods;
+        goods = goods;
       }
 
   pub going_next : (calls : List Call) (i : ℕ) (answers : List Answer) (c d : Cell A B) (k : Call) (a : Answer) → i < length calls → i < length answers → k ≡ get_or calls i k →

@@ -23,7 +23,7 @@ use Rattle.cell.specs.declared.calls.Call.{Call}
 use Rattle.cell.specs.declared.calls.Call.TheVariants as call
 use Rattle.cell.specs.Faults.{Refusal, numbers}
 use Rattle.cell.specs.Logs.{Games, own, Log, Event, Told, asked, offered, reported, to_offer, to_report, states, phase, waits, signals_shown, ranks_shown, Offering, first, run, answers, all_answers, phase_after, taken}
-use Rattle.cell.specs.Law.{Law}
+use Rattle.cell.specs.Law.{Law, InTime}
 use Rattle.cell.specs.Running.{Good}
 
 -- a result as the log has it: each fault by its number, its values and its side
@@ -133,11 +133,12 @@ module _ {A B : Type 0} (m0 : A → Model) (k0 : A → Marks) (m1 : B → Model)
     pub second_game : c.second ≡ y
     pub tells : Tells [] c
 
--- a run of calls, put to a cell just made over two games: the answers are the log's, one for one, and after every first part of the
--- calls the law holds
+-- a run of calls, put to a cell just made over two games: the answers are the log's, one for one; after every first part of the calls
+-- the law holds, and the ranks there come true in the rest of them
 pub record Replayed (g : Games) (events : List Event) (given : List Told) : Type 0 where
   pub answered : given ≡ all_answers g events (first g)
   pub law : (n : ℕ) → Law g (take n events)
+  pub in_time : (n : ℕ) → InTime g (take n events) (drop n events) 0 × InTime g (take n events) (drop n events) 1
 
 -- what is replayed into a buffer: as many calls as it has room for, their answers at its front, and the rest of it unchanged
 pub record Fills (g : Games) (events : List Event) (old new : List Answer) (count : ℕ) : Type 0 where

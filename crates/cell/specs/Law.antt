@@ -1,8 +1,8 @@
 -- What is promised of a cell over any run of calls.
-use Rattle.std.specs.Prelude.{◌≡◌, ℕ, ◌+◌, ◌≤◌, max, true, false, List, [], ◌∷◌, Some, None, Ok, Err, Option, Result, is_some}
+use Rattle.std.specs.Prelude.{◌≡◌, ℕ, ◌+◌, ◌≤◌, max, Bool, true, false, List, take, [], ◌∷◌, Some, None, Ok, Err, Option, Result, is_some}
 use Rattle.reading.specs.Sides.{pick}
 use Rattle.reading.specs.declared.sides.Sides.{Sides}
-use Rattle.games.specs.Machines.{forbidden_in}
+use Rattle.games.specs.Machines.{forbidden_in, goal_in}
 use Rattle.checking.specs.Arenas.{promised, relied}
 use Rattle.reading.specs.Records.{parts_in, rank_at}
 use Rattle.checking.specs.Controllers.{plan_in, Kept}
@@ -94,6 +94,34 @@ raised (ranks_shown r) m = m
 unfoldable pub largest_answered : List Told → Sides ℕ → Sides ℕ
 largest_answered [] m = m
 largest_answered (a ∷ given) m = largest_answered given (raised a m)
+
+-- a side's machine is at a goal
+abbrev pub at_goal : Games → Log → ℕ → Bool
+at_goal g l side = goal_in (own side g.machines) (own side g.marks) (own side l.at.states)
+
+-- a tick passes with each accepted report
+abbrev pub tick : Told → ℕ
+tick (to_report (Ok s)) = 1
+tick (to_report (Err f)) = 0
+tick (to_offer r) = 0
+tick (states s) = 0
+tick (phase p) = 0
+tick (waits w) = 0
+tick (signals_shown s) = 0
+tick (ranks_shown r) = 0
+
+-- how many ticks have passed, told from the answers alone
+unfoldable pub ticks : List Told → ℕ
+ticks [] = 0
+ticks (a ∷ given) = tick a + ticks given
+
+-- a rank comes true: after some calls an offer is in force; if as many ticks pass with the later calls as a side's rank then says, its
+-- machine is at a goal after some first part of these, or was when they began
+abbrev pub InTime : Games → List Event → List Event → ℕ → Type 0
+InTime g before later side =
+    is_some (run g before (first g)).force ≡ true
+    → own side (ranks (run g before (first g))) ≤ ticks (all_answers g later (run g before (first g)))
+    → (n : ℕ) × (at_goal g (run g (take n later) (run g before (first g))) side ≡ true)
 
 -- the law of the cell, after some calls: the offer in force is the last that was accepted, the largest bounds are those that accepted
 -- offers have answered, and from the first accepted offer on what is guaranteed holds

@@ -1,5 +1,5 @@
 -- What the definitions of the cell say in small cases, computed.
-use Rattle.std.proofs.Common.{◌≡◌, ℕ, List, [], ◌∷◌, true, false, Some, None, Err, refl, ap}
+use Rattle.std.proofs.Common.{◌≡◌, ℕ, List, [], ◌∷◌, true, false, Some, None, Ok, Err, refl, ap}
 use Rattle.reading.specs.declared.sides.Sides.{Sides}
 use Rattle.reading.specs.declared.phase_table.PhaseTable.{PhaseTable}
 use Rattle.reading.specs.Firsts.{first_some}
@@ -11,7 +11,8 @@ use Rattle.cell.specs.declared.copies.Standing.{Standing}
 use Rattle.cell.specs.declared.calls.Question.{Question}
 use Rattle.cell.specs.declared.calls.Question.TheVariants as question
 use Rattle.cell.specs.Faults.{Refusal, bare}
-use Rattle.cell.specs.Logs.{Games, Offering, Log, asked, states, phase, waits, signals_shown, ranks_shown, first, record_fault, change_fault, changes_fault, answers_offer, taken, running_fault, bounds_of, unless_refused, waited, phase_after, moved, answers_report, answers_question, after}
+use Rattle.cell.specs.Law.{ticks}
+use Rattle.cell.specs.Logs.{Games, Offering, Log, asked, to_offer, to_report, states, phase, waits, signals_shown, ranks_shown, first, record_fault, change_fault, changes_fault, answers_offer, taken, running_fault, bounds_of, unless_refused, waited, phase_after, moved, answers_report, answers_question, after}
 
 -- before any call
 module _ (g : Games) where
@@ -140,3 +141,8 @@ module _ (t : PhaseTable) (d : Deal) (says : table_of t ≡ table_in (2 ∷ 2 �
   reports : (g : Games) → (moved g (both 1 0) (record { at = standing 0 0 0; force = Some (offer t d crossing (one 0 1 0)) })).at.phase ≡ 1
   unfolding moved
   reports g = shown_before
+
+-- a tick passes with a report that is accepted, and with no other call
+two_ticks : ticks (to_report (Ok (both 1 0)) ∷ to_report (Err (bare 33 0)) ∷ to_offer (Ok (both 3 2)) ∷ phase 1 ∷ to_report (Ok (both 0 1)) ∷ []) ≡ 2
+unfolding ticks
+two_ticks = refl
