@@ -1,5 +1,5 @@
 -- What a log answers, step by step.
-use Rattle.std.proofs.Common.{◌≡◌, ℕ, zero, suc, ◌<◌, List, [], ◌∷◌, length, map, take, Some, None, Ok, Err, sym, refl, ap, ◌∙◌, subst, arith}
+use Rattle.std.proofs.Common.{◌≡◌, ℕ, zero, suc, ◌<◌, List, [], ◌∷◌, length, map, take, drop, Some, None, Ok, Err, sym, refl, ap, ◌∙◌, subst, arith}
 use Rattle.std.proofs.lemmas.List.{take_all}
 use Rattle.reading.specs.declared.sides.Sides.{Sides}
 use Rattle.reading.proofs.FirstLaws.{of_right, none_unless}
@@ -56,6 +56,13 @@ module _ (g : Games) (P : Log → Type 0) where
   unfolding all_answers
   answers_by ends = refl
   answers_by (goes now then kept later) = rw (now, then, answers_by later) refl
+
+  -- and the rest of them, from where the first n lead
+  pub rest_by : {es : List Event} {l : Log} {given : List Told} → Goes g P es l given → (n : ℕ) → all_answers g (drop n es) (run g (take n es) l) ≡ drop n given
+  unfolding run
+  rest_by h zero = answers_by h
+  rest_by ends (suc n) = answers_by ends
+  rest_by (goes {es = es} {rest = rest} now then next later) (suc n) = subst (λ (l : Log). all_answers g (drop n es) (run g (take n es) l) ≡ drop n rest) (sym then) (rest_by later n)
 
   pub holds_by : {es : List Event} {l : Log} {given : List Told} → Goes g P es l given → P l → (n : ℕ) → P (run g (take n es) l)
   unfolding run

@@ -1,5 +1,5 @@
 -- The bay of two phases runs, call by call.
-use Rattle.std.proofs.Common.{◌≡◌, ℕ, ◌+◌, ◌≤◌, true, false, cond, Some, None, Ok, Err, refl, ap, ◌∙◌, arith}
+use Rattle.std.proofs.Common.{◌≡◌, ℕ, ◌+◌, ◌≤◌, true, false, cond, take, drop, Some, None, Ok, Err, refl, ap, ◌∙◌, arith}
 use Rattle.std.specs.Option.{option_map}
 use Rattle.reading.specs.declared.phase_table.PhaseTable.{PhaseTable}
 use Rattle.reading.specs.PhaseTables.{Table, table_of, table_in, next_phase}
@@ -9,10 +9,10 @@ use Rattle.games.specs.Machines.{forbidden_in, goal_in}
 use Rattle.checking.specs.Searching.{both}
 use Rattle.cell.specs.declared.copies.Standing.{Standing}
 use Rattle.cell.specs.Faults.{bare, about}
-use Rattle.cell.specs.Logs.{Log, Offering, to_offer, to_report, first, signals, ranks, choice_fault, phase_after, moves, moved, answers_offer, answers_report}
-use Rattle.cell.specs.Law.{Guarantee, BothMove, last_accepted, largest_answered}
-use Rattle.trials.specs.Witness.{leader, marks, bay, table, Stands, high, low, calls, told, Runs, Witness}
-use Rattle.trials.proofs.Steps.{only_changes, accepts, refuses, comes, stays, moves_on, stands, here, all_moves, Goes, answers_by, holds_after}
+use Rattle.cell.specs.Logs.{Log, Offering, to_offer, to_report, own, run, first, signals, ranks, choice_fault, phase_after, moves, moved, answers_offer, answers_report}
+use Rattle.cell.specs.Law.{Guarantee, BothMove, ticks, last_accepted, largest_answered}
+use Rattle.trials.specs.Witness.{leader, marks, bay, table, Stands, high, low, calls, told, Runs, Soon, Witness}
+use Rattle.trials.proofs.Steps.{only_changes, accepts, refuses, comes, stays, moves_on, stands, here, all_moves, Goes, answers_by, rest_by, holds_after}
 use Rattle.trials.proofs.Steps.Goes.{ends, goes}
 use Rattle.cell.proofs.AnswerLaws.{moves_from_accepted}
 use Rattle.trials.proofs.WitnessBay.{lawful, there, high0, high1, low0, low1, promised0, promised1, relied0, relied1}
@@ -145,6 +145,23 @@ module _ (t : PhaseTable) (d : Deal) (s : Stands t d) where
       (goes refl refl law_met
       (goes refl refl law_met ends)))))))))))))
 
+  -- the lower offer is the seventh call
+  seventh : run bay (take 7 (calls t d)) (first bay) ≡ handed
+  unfolding run
+  seventh = rw (
+    comes bay (first bay) (high t d) (both 5 6) begins,
+    moves_on bay begun (both 0 0) (both 1 0) reports_first ∙ waits_first,
+    stays bay waiting (high t d) (bare 31 0) rises,
+    comes bay waiting (low t d) (both 3 2) changes,
+  ) refl
+
+  two_ticks : ticks (drop 7 told) ≡ 2
+  unfolding ticks
+  two_ticks = refl
+
+  soon : Soon (run bay (take 7 (calls t d)) (first bay)) (drop 7 (calls t d))
+  soon = (ap (λ l. own 1 (ranks l)) seventh, ap ticks (rest_by bay Runs by_turn 7) ∙ two_ticks)
+
 last_is : (t : PhaseTable) (d : Deal) → last_accepted (calls t d) told None ≡ Some (low t d)
 unfolding last_accepted
 last_is t d = refl
@@ -160,6 +177,7 @@ witnessed = record {
   there = there;
   answers = λ t d s. answers_by bay Runs (by_turn t d s);
   runs = λ t d s n h. holds_after bay Runs (by_turn t d s) n h;
+  soon = soon;
   last = last_is;
   largest = largest_is;
 }

@@ -1,5 +1,5 @@
 -- A bay of two phases whose cell runs: offers are accepted in both phases, a goal is met after a wait, and the law holds all the way.
-use Rattle.std.specs.Prelude.{◌≡◌, ℕ, ◌<◌, cond, ◌&&◌, List, [], ◌∷◌, take, Some, None, Ok, Err, ◌==◌}
+use Rattle.std.specs.Prelude.{◌≡◌, ℕ, ◌<◌, cond, ◌&&◌, List, [], ◌∷◌, take, drop, Some, None, Ok, Err, ◌==◌}
 use Rattle.reading.specs.declared.sides.Sides.{Sides}
 use Rattle.reading.specs.declared.phase_table.PhaseTable.{PhaseTable}
 use Rattle.reading.specs.PhaseTables.{table_in, table_of}
@@ -9,8 +9,8 @@ use Rattle.games.specs.Signings.{Dealt}
 use Rattle.checking.specs.Searching.{both, terms_of}
 use Rattle.cell.specs.declared.calls.Question.TheVariants as question
 use Rattle.cell.specs.Faults.{bare}
-use Rattle.cell.specs.Logs.{Games, Offering, Log, Event, Told, offered, reported, asked, to_offer, to_report, phase, waits, signals_shown, ranks_shown, first, run, all_answers}
-use Rattle.cell.specs.Law.{Holds, last_accepted, largest_answered}
+use Rattle.cell.specs.Logs.{Games, Offering, Log, Event, Told, offered, reported, asked, to_offer, to_report, own, ranks, phase, waits, signals_shown, ranks_shown, first, run, all_answers}
+use Rattle.cell.specs.Law.{Holds, ticks, last_accepted, largest_answered}
 
 -- a machine that goes to the state that one of the two signals names, whatever its state; where both show the same signal it goes to
 -- state 2
@@ -117,13 +117,19 @@ told =
 abbrev pub Runs : Log → Type 0
 Runs l = (o : Offering) × (l.force ≡ Some o) × Holds bay l o
 
+-- side 1's rank is 2, and two ticks pass with the later calls
+abbrev pub Soon : Log → List Event → Type 0
+Soon l later = (own 1 (ranks l) ≡ 2) × (ticks (all_answers bay later l) ≡ 2)
+
 -- the machines are lawful, and there are such a table and deal. With any, the log answers so, and the law holds after each call, under
--- the offer that was accepted last; the largest bounds are those of the first offer
+-- the offer that was accepted last; as many ticks pass after the lower offer as side 1's rank says then; the largest bounds are those of
+-- the first offer
 pub record Witness : Type 0 where
   pub leads : Lawful leader
   pub follows : Lawful follower
   pub there : (t : PhaseTable) × (d : Deal) × Stands t d
   pub answers : (t : PhaseTable) (d : Deal) → Stands t d → all_answers bay (calls t d) (first bay) ≡ told
   pub runs : (t : PhaseTable) (d : Deal) → Stands t d → (n : ℕ) → 0 < n → Runs (run bay (take n (calls t d)) (first bay))
+  pub soon : (t : PhaseTable) (d : Deal) → Stands t d → Soon (run bay (take 7 (calls t d)) (first bay)) (drop 7 (calls t d))
   pub last : (t : PhaseTable) (d : Deal) → last_accepted (calls t d) told None ≡ Some (low t d)
   pub largest : largest_answered told (both 0 0) ≡ both 5 6
