@@ -1,3 +1,5 @@
+//! Machines and games with one meaning; the four machines; and the talk that both sides sign a deal by.
+
 #![tactic(auto)]
 
 pub mod deal;

@@ -1,3 +1,5 @@
+//! The five formats: bytes of each are read to their sheet, or to the first fault.
+
 #![tactic(auto)]
 
 pub mod bytes;
