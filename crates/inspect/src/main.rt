@@ -7,6 +7,7 @@ use inspection::kinds::Request;
 use inspection::machines::{lift, product};
 use inspection::sheets::inspect;
 use std::env;
+use std::num::ParseIntError;
 
 const USAGE: &str = "usage: inspect KIND < SHEET
   inspect machine              a machine sheet
@@ -19,6 +20,12 @@ const USAGE: &str = "usage: inspect KIND < SHEET
   inspect --help               this text
 ";
 
+/// A size of a lift; a number that does not fit into a byte as 255, which is out of range, too.
+fn size(word: &str) -> Result<u8, ParseIntError> {
+    let number: u64 = word.parse()?;
+    Ok(u8::try_from(number).unwrap_or(u8::MAX))
+}
+
 fn main(rt: HostRuntime) -> anyhow::Result<()> {
     let heap = rt.alloc();
     let words: Vec<String> = env::args(&rt)?.skip(1).collect(heap)?;
@@ -29,8 +36,8 @@ fn main(rt: HostRuntime) -> anyhow::Result<()> {
             product(heap, machine.as_slice(), rule.as_slice())?
         }
         [kind, floors, signals] if kind.as_str() == "lift" => {
-            let floors = floors.as_str().parse().context("F is no number")?;
-            let signals = signals.as_str().parse().context("M is no number")?;
+            let floors = size(floors.as_str()).context("F is no number")?;
+            let signals = size(signals.as_str()).context("M is no number")?;
             lift(heap, floors, signals)?
         }
         words => match Request::parse(words) {
