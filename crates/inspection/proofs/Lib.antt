@@ -1,3 +1,2 @@
-mod TallyLaws
 mod NameLaws
 mod Examples

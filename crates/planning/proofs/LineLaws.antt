@@ -1,9 +1,8 @@
 -- A text that grows line by line.
-use Rattle.std.proofs.Common.{◌≡◌, ℕ, suc, ◌+◌, List, ◌++◌, Some, None, Option, ap, ◌∙◌, sym, arith}
+use Rattle.std.proofs.Common.{◌≡◌, ℕ, suc, ◌+◌, List, ◌++◌, ap, ◌∙◌, sym, arith}
 use Rattle.std.proofs.lemmas.List.{append-nil, append_assoc}
-use Rattle.reading.specs.Faults.{Fault}
 use Rattle.reading.specs.Records.{Parts}
-use Rattle.planning.specs.Lines.{position_line, state_lines, table_lines, table_of}
+use Rattle.planning.specs.Lines.{position_line, state_lines, table_lines}
 
 -- before any line
 pub no_phase : (r : Parts) (s : ℕ) (text : List ℕ) → text ≡ text ++ state_lines r s 0
@@ -26,13 +25,6 @@ state_more r s = let e : s + 1 ≡ suc s = omega arith in ap (table_lines r) e
 -- what is added behind what was there
 pub behind : (old text new now before more : List ℕ) → new ≡ text ++ more → text ≡ old ++ before → now ≡ before ++ more → new ≡ old ++ now
 behind old text new now before more e f g = e ∙ ap (λ t. t ++ more) f ∙ append_assoc old before more ∙ ap (λ t. old ++ t) (sym g)
-
--- a record that can be read has its table, and one that cannot has none
-pub readable : (o : Option Fault) (r q : Parts) (old new : List ℕ) → None ≡ o → q ≡ r → new ≡ old ++ table_lines q q.states → new ≡ old ++ table_of o r
-readable o r q old new e f g = rw (sym e, sym f) g
-
-pub unreadable : (o : Option Fault) (r : Parts) (text : List ℕ) (f : Fault) → Some f ≡ o → text ≡ text ++ table_of o r
-unreadable o r text f e = rw (sym e) (sym (append-nil text))
 
 -- three parts, and what comes behind them
 pub three : (a b c d : List ℕ) → (a ++ (b ++ c)) ++ d ≡ a ++ (b ++ (c ++ d))

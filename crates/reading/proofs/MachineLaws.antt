@@ -1,10 +1,10 @@
 -- Machine sheets: from the order of faults to the lawful sheet, and back.
-use Rattle.std.proofs.Common.{◌≡◌, ℕ, zero, suc, ◌-◌, ◌*◌, ◌<◌, true, ◌||◌, eqb, ltb, leb, List, length, None, Option, sym, ap, ◌∙◌, inl, inr, arith}
+use Rattle.std.proofs.Common.{◌≡◌, ℕ, zero, suc, ◌-◌, ◌*◌, ◌<◌, true, ◌||◌, eqb, ltb, leb, List, length, None, Option, inl, inr, arith}
 use Rattle.std.proofs.lemmas.Bool.{cases_eq, ltb-true, leb-true, eqb-true, lt-ltb, le-leb, eq-eqb, or_cases, or_left, or_right, and_parts, and_from}
 use Rattle.reading.specs.Firsts.{unless}
 use Rattle.reading.specs.Faults.{Fault, fault, length_place}
-use Rattle.reading.specs.MachineSheets.{key_place, target_place, Sheet, sheet_in, frame_fault, field_fault, head_fault, Headed, Ranged, Listed, Lawful, Before, before, key_at, target_at, move_fault, body_fault, machine_fault}
-use Rattle.reading.proofs.FirstLaws.{none_left, none_right, of_none, of_right, none_unless, unless_none, none_below, below_none}
+use Rattle.reading.specs.MachineSheets.{key_place, target_place, Sheet, sheet_in, frame_fault, field_fault, head_fault, Ranged, Listed, Lawful, Before, before, key_at, target_at, move_fault, body_fault, machine_fault}
+use Rattle.reading.proofs.FirstLaws.{none_left, none_right, of_none, none_unless, unless_none, none_below, below_none}
 use Rattle.reading.proofs.EntryLaws.{entries_below, below_entries}
 use Rattle.reading.proofs.Ranges.{from_within, to_within}
 
@@ -115,7 +115,3 @@ lawful_to xs w =
     of_none (head_fault xs) _
     (of_none _ _ (unless_none _ _ (le-leb 8 _ w.fixed)) (of_none _ _ (fields_to _ _ _ _ _ w.fields) (unless_none _ _ (eq-eqb _ _ w.long))))
     (listed_to (sheet_in xs) w.entries)
-
--- past fields and length, the first fault is that of the entries
-pub entries_next : (xs : List ℕ) (s : Sheet) → Headed xs s → body_fault s ≡ machine_fault xs
-entries_next xs s h = ap body_fault h.held ∙ sym (of_right (head_fault xs) (body_fault (sheet_in xs)) h.faultless)

@@ -1,12 +1,12 @@
 -- Phase tables: from the order of faults to the lawful table, and back.
-use Rattle.std.proofs.Common.{◌≡◌, ℕ, ◌+◌, ◌≤◌, leb, List, length, drop, None, Option, sym, ap, ◌∙◌, arith, length-drop}
+use Rattle.std.proofs.Common.{◌≡◌, ℕ, ◌≤◌, leb, List, length, drop, None, Option, sym}
 use Rattle.std.proofs.lemmas.Bool.{leb-true, eqb-true, le-leb, eq-eqb}
-use Rattle.reading.specs.Firsts.{first_below, unless}
+use Rattle.reading.specs.Firsts.{unless}
 use Rattle.reading.specs.Bytes.{byte, padded}
 use Rattle.reading.specs.Sizes.{field_fault}
-use Rattle.reading.specs.Faults.{Fault, fault, length_place, entry_fault}
-use Rattle.reading.specs.PhaseTables.{Table, table_in, size_in, head_fault, phase_fault, Lawful}
-use Rattle.reading.proofs.FirstLaws.{none_left, none_right, of_none, of_right, none_unless, unless_none}
+use Rattle.reading.specs.Faults.{Fault, fault, length_place}
+use Rattle.reading.specs.PhaseTables.{Table, table_in, head_fault, phase_fault, Lawful}
+use Rattle.reading.proofs.FirstLaws.{none_left, none_right, of_none, none_unless, unless_none}
 use Rattle.reading.proofs.EntryLaws.{entries_below, below_entries}
 use Rattle.reading.proofs.Ranges.{from_within, to_within}
 
@@ -24,14 +24,6 @@ fields_from p k0 k1 n =
       signals0 = from_within 1 4 k0 (none_unless _ _ (none_left _ _ e1));
       signals1 = from_within 1 4 k1 (none_unless _ _ (none_right _ _ e1));
     }
-
--- past fields and length, the first fault is that of the entries
-pub entries_next : (xs rest : List ℕ) → 3 ≤ length xs → None ≡ field_fault (byte xs 0) (byte xs 1) (byte xs 2)
-    → rest ≡ drop 3 xs → length rest ≡ size_in xs → first_below (length rest) (entry_fault rest (byte xs 0) 3) ≡ phase_fault xs
-entries_next xs rest l e hr q =
-    let long : length xs ≡ 3 + size_in xs = omega (arith, length-drop 3 xs, ap length hr) in
-    ap (λ ys. first_below (length ys) (entry_fault ys (byte xs 0) 3)) hr
-    ∙ sym (of_right (head_fault xs) _ (of_none _ _ (unless_none _ _ (le-leb 3 _ l)) (of_none _ _ (sym e) (unless_none _ _ (eq-eqb _ _ long)))))
 
 pub lawful_from : (xs : List ℕ) → phase_fault xs ≡ None → Lawful xs
 lawful_from xs e =
