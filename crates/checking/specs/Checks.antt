@@ -9,7 +9,7 @@ use Rattle.reading.specs.declared.records.Position.{Position}
 use Rattle.games.specs.declared.deal.Deal.{Deal}
 use Rattle.games.specs.Machines.{Model, Marks}
 use Rattle.checking.specs.declared.faults.CheckFault.TheVariants.{Sizes, RecordSizes, HalfKept, StartAbsent, Forbidden, NotPromised, GoalRank, NoNext, NextAbsent, NotLower}
-use Rattle.checking.specs.declared.check.candidate.Candidate.{Candidate}
+use Rattle.checking.specs.declared.check.proposal.Proposal.{Proposal}
 use Rattle.checking.specs.Arenas.{Arena, arena, suits, Suits}
 use Rattle.checking.specs.Controllers.{Plan, plan_of, plan_in, Controller}
 use Rattle.checking.specs.Faults.{Refusal, numbers, unread}
@@ -18,8 +18,8 @@ use Rattle.checking.specs.Faults.{Refusal, numbers, unread}
 abbrev pub at : ℕ → ℕ → Position
 at s p = record { state = s; phase = p }
 
--- the plan that a candidate puts forward
-abbrev pub put : {G : Type 0} → Candidate G → Plan
+-- the plan that is put forward
+abbrev pub put : {G : Type 0} → Proposal G → Plan
 put x = plan_of (parts_of x.plan)
 
 -- whether a position is kept: not if choice and rank are both absent

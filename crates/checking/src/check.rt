@@ -1,11 +1,11 @@
-mod candidate;
+mod proposal;
 
 ghost use Rattle.std.specs.Prelude.{◌≡◌, is_ok, IfOk, Decides};
 ghost use Rattle.checking.specs.Controllers.{plan_in, Bound};
 ghost use Rattle.checking.specs.Faults.{told};
 ghost use Rattle.checking.specs.Checks.{check_answer, Ranked};
 
-use crate::check::candidate::Candidate;
+use crate::check::proposal::Proposal;
 use crate::faults::CheckFault;
 use crate::seat::Seat;
 use games::deal::Deal;
@@ -34,8 +34,8 @@ pub fn check<G: Game>(
     };
     faults::check(seat.suits(), CheckFault::Sizes)?;
     let plan = Record::read(bytes)?;
-    let candidate = Candidate { seat, plan };
-    faults::check(candidate.sized(), CheckFault::RecordSizes)?;
-    candidate.check()?;
+    let proposal = Proposal { seat, plan };
+    faults::check(proposal.sized(), CheckFault::RecordSizes)?;
+    proposal.check()?;
     Ok(plan.bound())
 }

@@ -1,6 +1,6 @@
 use Rattle.std.proofs.Common.{rules}
 use Rattle.checking.proofs.CheckLaws.{stops_below}
-use Rattle.checking.proofs.check.candidate.Candidate.check_nexts.Goals as goal
+use Rattle.checking.proofs.check.proposal.Proposal.check_nexts.Goals as goal
 
 pub returns-in_err-check_next : goal.returns-in_err-check_next
 returns-in_err-check_next g c =

@@ -11,14 +11,14 @@ use games::machine::{Game, Machine};
 use reading::faults::check;
 use reading::records::{NO_CHOICE, NO_RANK, Position, Record};
 
-/// A plan put forward for a seat.
+/// A plan put forward to be checked, for a seat.
 #[derive_where(Clone, Copy)]
-pub(crate) struct Candidate<'a, G: Machine> {
+pub(crate) struct Proposal<'a, G: Machine> {
     pub(crate) seat: Seat<'a, G>,
     pub(crate) plan: Record<'a>,
 }
 
-impl<G: Game> Candidate<'_, G> {
+impl<G: Game> Proposal<'_, G> {
     /// Whether the plan is of the sizes of game and table.
     pub(crate) fn sized(&self) -> bool
         ensures { result ≡ sized (G.Machine.meaning self.now.seat.game.now) self.now.seat.table.now (parts_of self.now.plan) }

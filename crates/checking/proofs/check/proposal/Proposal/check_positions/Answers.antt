@@ -1,7 +1,7 @@
 use Rattle.std.proofs.Common.{sym, rules, arith}
 use Rattle.reading.proofs.FirstLaws.{none_more, none_end}
 use Rattle.checking.proofs.CheckLaws.{first_at, stops_below}
-use Rattle.checking.proofs.check.candidate.Candidate.check_positions.Goals as goal
+use Rattle.checking.proofs.check.proposal.Proposal.check_positions.Goals as goal
 
 pub returns-in_err-check_position : goal.returns-in_err-check_position
 returns-in_err-check_position g c =

@@ -1,7 +1,7 @@
 use Rattle.std.proofs.Common.{rules}
 use Rattle.reading.proofs.FirstLaws.{none_more}
 use Rattle.checking.proofs.CheckLaws.{stops_below}
-use Rattle.checking.proofs.check.candidate.Candidate.check_partners.Goals as goal
+use Rattle.checking.proofs.check.proposal.Proposal.check_partners.Goals as goal
 
 pub returns-in_err-check_partner : goal.returns-in_err-check_partner
 returns-in_err-check_partner g c =
