@@ -1,8 +1,7 @@
 -- What an offer does to the log that a cell shows.
 use Rattle.std.proofs.Common.{◌≡◌, ℕ, zero, suc, ◌≤◌, Bor, length, Some, None, Ok, Err, Option, Result, MatchResult, IfOk, is_ok, true, false, Decides, sym, refl, ap, subst, ◌∙◌, mul-le-mul, arith}
 use Rattle.reading.specs.Records.{parts_in, bound_of}
-use Rattle.reading.specs.Sides.{pick}
-use Rattle.checking.specs.Searching.{both}
+use Rattle.reading.specs.Sides.{both, pick}
 use Rattle.reading.specs.declared.sides.Sides.{Sides}
 use Rattle.reading.proofs.FirstLaws.{not_some, not_true, none_left, none_right, of_none, of_left, of_right}
 use Rattle.games.specs.Machines.{Model, Marks}

@@ -3,11 +3,11 @@ use Rattle.std.specs.Prelude.{◌≡◌, ℕ, ◌+◌, ◌-◌, ◌^◌, min, Bo
 use Rattle.std.specs.Option.{option_map}
 use Rattle.std.specs.Result.{result_map_both, result_err}
 use Rattle.reading.specs.Records.{parts_in, bound_of}
+use Rattle.reading.specs.Sides.{both}
 use Rattle.reading.specs.declared.sides.Sides.{Sides}
 use Rattle.games.specs.Machines.{Model, Marks}
 use Rattle.checking.specs.Controllers.{plan_in, Bound}
 use Rattle.checking.specs.Checks.{Ranked}
-use Rattle.checking.specs.Searching.{both}
 use Rattle.cell.specs.declared.faults.CellFault.{CellFault}
 use Rattle.cell.specs.declared.copies.Mode.{Mode}
 use Rattle.cell.specs.declared.copies.Mode.TheVariants as mode

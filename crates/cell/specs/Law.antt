@@ -1,13 +1,12 @@
 -- What is promised of a cell over any run of calls.
 use Rattle.std.specs.Prelude.{◌≡◌, ℕ, ◌+◌, ◌≤◌, max, Bool, true, false, List, take, [], ◌∷◌, Some, None, Ok, Err, Option, Result, is_some}
-use Rattle.reading.specs.Sides.{pick}
+use Rattle.reading.specs.Sides.{both, pick}
 use Rattle.reading.specs.declared.sides.Sides.{Sides}
 use Rattle.games.specs.Machines.{forbidden_in, goal_in}
 use Rattle.checking.specs.Arenas.{promised, relied}
 use Rattle.reading.specs.Records.{parts_in, rank_at}
 use Rattle.checking.specs.Controllers.{plan_in, Kept}
 use Rattle.checking.specs.Checks.{Ranked}
-use Rattle.checking.specs.Searching.{both}
 use Rattle.cell.specs.Faults.{Refusal}
 use Rattle.cell.specs.Logs.{Games, Log, Event, Told, offered, reported, asked, to_offer, to_report, states, phase, waits, signals_shown, ranks_shown, Offering, own, first, signals, ranks, moves, answers_report, run, all_answers}
 

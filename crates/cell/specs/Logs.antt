@@ -4,14 +4,13 @@ use Rattle.std.specs.Option.{option_map}
 use Rattle.reading.specs.Firsts.{first_some, unless}
 use Rattle.reading.specs.Records.{parts_in, choice_at, rank_at, bound_of}
 use Rattle.reading.specs.PhaseTables.{table_of, next_phase}
-use Rattle.reading.specs.Sides.{pick}
+use Rattle.reading.specs.Sides.{both, pick}
 use Rattle.reading.specs.declared.sides.Sides.{Sides}
 use Rattle.reading.specs.declared.phase_table.PhaseTable.{PhaseTable}
 use Rattle.games.specs.declared.deal.Deal.{Deal}
 use Rattle.games.specs.Machines.{Model, Marks, goal_in}
 use Rattle.checking.specs.Controllers.{plan_in}
 use Rattle.checking.specs.Checks.{keeps, check_fault}
-use Rattle.checking.specs.Searching.{both}
 use Rattle.cell.specs.declared.faults.CellFault.TheVariants.{NotKept, RankRises, Idle, NoChoice, NoSuchMove}
 use Rattle.cell.specs.declared.calls.Question.{Question}
 use Rattle.cell.specs.declared.calls.Question.TheVariants as question

@@ -4,6 +4,7 @@ use Rattle.std.specs.Option.{option_map}
 use Rattle.std.proofs.lemmas.Bool.{and_from, lt-leb}
 use Rattle.std.proofs.lemmas.Nat.{div_below, mod_below, div-add-mod', mul-add-lt}
 use Rattle.std.proofs.lemmas.List.{length-append, length-map, get_or-map, get_or_append_left, get_or-append_right}
+use Rattle.reading.specs.Sides.{both}
 use Rattle.reading.specs.declared.sides.Sides.{Sides}
 use Rattle.reading.specs.declared.sizes.Sizes.{Sizes}
 use Rattle.reading.specs.Marks.{implies}
@@ -15,7 +16,7 @@ use Rattle.games.specs.declared.deal.talk.TalkFault.TheVariants.{NotTerms}
 use Rattle.games.specs.Deals.{numbers}
 use Rattle.games.specs.Signings.{about, refused, signing_fault, Dealt}
 use Rattle.games.proofs.DealLaws.{no_gap}
-use Rattle.checking.specs.Searching.{both, promises, pairs, candidate, how_many, terms_of}
+use Rattle.checking.specs.Searching.{promises, pairs, candidate, how_many, terms_of}
 use Rattle.checking.proofs.PromiseLaws.{promise_described, some_promises}
 
 module _ {A : Type 0} where

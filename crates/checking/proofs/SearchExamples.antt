@@ -1,6 +1,7 @@
 -- What the definitions say of promises and candidates of small bays.
 use Rattle.std.proofs.Common.{◌≡◌, ℕ, [], ◌∷◌, refl}
-use Rattle.checking.specs.Searching.{both, promises, pairs}
+use Rattle.reading.specs.Sides.{both}
+use Rattle.checking.specs.Searching.{promises, pairs}
 
 -- one phase, one signal: there is one promise
 one_signal : promises 1 1 ≡ 1 ∷ []

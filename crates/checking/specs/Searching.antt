@@ -3,6 +3,7 @@ use Rattle.std.specs.Prelude.{◌≡◌, ℕ, ◌-◌, ◌*◌, ◌^◌, ◌<◌
 use Rattle.std.specs.List.{range_with_len}
 use Rattle.reading.specs.Bytes.{within}
 use Rattle.reading.specs.Firsts.{first_some, unless}
+use Rattle.reading.specs.Sides.{both}
 use Rattle.reading.specs.declared.sides.Sides.{Sides}
 use Rattle.reading.specs.declared.sizes.Sizes.{Sizes}
 use Rattle.reading.specs.declared.phase_table.PhaseTable.{PhaseTable}
@@ -16,10 +17,6 @@ use Rattle.checking.specs.declared.faults.SearchFault.TheVariants as fault
 use Rattle.checking.specs.declared.search.Agreement.{Agreement}
 use Rattle.checking.specs.Arenas.{arena}
 use Rattle.checking.specs.Controllers.{Controlled}
-
--- a value for each side
-abbrev pub both : {A : Type 0} → A → A → Sides A
-both x y = record { first = x; second = y }
 
 -- all promises of a side with so many signals over so many phases, ascending: every number that is as described for it. What a
 -- described number holds lies below 2 ^ (width * phases)

@@ -4,7 +4,8 @@ mod promises;
 mod seek;
 
 ghost use Rattle.std.specs.Prelude.{◌≡◌, ◌≤◌, true, length, nat_le, vec_len, IfOk};
-ghost use Rattle.checking.specs.Searching.{both, how_many, meet, promises as promises_of, Searches};
+ghost use Rattle.reading.specs.Sides.{both};
+ghost use Rattle.checking.specs.Searching.{how_many, meet, promises as promises_of, Searches};
 
 use crate::faults::SearchFault;
 use crate::search::candidates::Candidates;

@@ -3,6 +3,7 @@ use Rattle.std.specs.Prelude.{◌≡◌, ℕ, Option, Result}
 use Rattle.std.specs.Option.{option_map}
 use Rattle.std.specs.Result.{result_err}
 use Rattle.reading.specs.Firsts.{first_some}
+use Rattle.reading.specs.PhaseTables.{Table}
 use Rattle.reading.specs.declared.sides.Sides.{Sides}
 use Rattle.reading.specs.declared.sizes.Sizes.{Sizes}
 use Rattle.games.specs.declared.deal.Terms.{Terms}
@@ -30,6 +31,10 @@ signing_fault phases k0 k1 s =
     first_some (option_map (about 0) (terms_fault phases k0 k1 s.first))
     (first_some (option_map (about 1) (terms_fault phases k1 k0 s.second))
     (first_gap phases s.first s.second))
+
+-- the same on a phase table
+abbrev pub deal_fault : Table → Sides Terms → Option Refusal
+deal_fault t s = signing_fault t.phases t.signals0 t.signals1 s
 
 -- a deal on a table's sizes, with both sides' terms
 pub record Dealt (z : Sizes) (s : Sides Terms) (d : Deal) : Type 0 where

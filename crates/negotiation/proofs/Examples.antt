@@ -1,10 +1,10 @@
 -- Examples that the definitions compute.
 use Rattle.std.proofs.Common.{◌≡◌, codes, Ok, Err, refl}
 use Rattle.std.specs.Fmt.{digits}
+use Rattle.reading.specs.Sides.{both}
 use Rattle.reading.specs.declared.faults.ReadFault.TheVariants.{Short}
 use Rattle.bays.specs.declared.faults.BayFault.TheVariants.{Lengths}
 use Rattle.checking.specs.declared.faults.SearchFault.TheVariants.{NoDeal}
-use Rattle.checking.specs.Searching.{both}
 use Rattle.negotiation.specs.declared.refusals.Refusal.TheVariants.{Bay, Search}
 use Rattle.negotiation.specs.Lines.{line}
 

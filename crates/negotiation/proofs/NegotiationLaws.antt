@@ -1,7 +1,7 @@
 -- From a bay that was read and the search over its games to what is negotiated.
 use Rattle.std.proofs.Common.{◌≡◌, ℕ, true, List, length, None, Ok, Err, Result, IsOk, refl, sym, ap, ◌∙◌, subst, inl, inr, ◌≤◌, mul-le-mul, rules, arith}
 use Rattle.std.proofs.lemmas.Bool.{and_parts, eqb-true}
-use Rattle.reading.specs.Sides.{pick}
+use Rattle.reading.specs.Sides.{both, pick}
 use Rattle.reading.specs.RuleSheets.{Automaton, automaton_of}
 use Rattle.reading.specs.declared.phase_table.PhaseTable.{PhaseTable}
 use Rattle.reading.specs.declared.sides.Sides.{Sides}
@@ -17,7 +17,7 @@ use Rattle.checking.specs.declared.search.Agreement.{Agreement}
 use Rattle.checking.specs.Arenas.{arena, suits}
 use Rattle.checking.specs.Controllers.{Controlled}
 use Rattle.checking.specs.Solutions.{Solves, record_size}
-use Rattle.checking.specs.Searching.{both, meet, search_head, Searches}
+use Rattle.checking.specs.Searching.{meet, search_head, Searches}
 use Rattle.checking.proofs.CheckLaws.{suits_from, suits_to}
 use Rattle.checking.proofs.SolveLaws.{head_none}
 use Rattle.bays.specs.declared.bay.Bay.{Bay}

@@ -2,6 +2,7 @@
 use Rattle.std.specs.Prelude.{◌≡◌, ℕ, List, Some, None, Ok, Err, Result}
 use Rattle.reading.specs.RuleSheets.{automaton_in}
 use Rattle.reading.specs.PhaseTables.{table_in, table_of}
+use Rattle.reading.specs.Sides.{both}
 use Rattle.reading.specs.declared.phase_table.PhaseTable.{PhaseTable}
 use Rattle.reading.specs.declared.sides.Sides.{Sides}
 use Rattle.games.specs.declared.deal.Deal.{Deal}
@@ -12,7 +13,7 @@ use Rattle.checking.specs.declared.search.Agreement.{Agreement}
 use Rattle.checking.specs.declared.faults.SearchFault.{SearchFault}
 use Rattle.checking.specs.Checks.{check_answer}
 use Rattle.checking.specs.Solutions.{Solution}
-use Rattle.checking.specs.Searching.{both, Searches}
+use Rattle.checking.specs.Searching.{Searches}
 use Rattle.bays.specs.Inputs.{Parts, parts_in}
 use Rattle.bays.specs.Bays.{bay_fault, blame}
 use Rattle.negotiation.specs.declared.negotiator.Settlement.{Settlement}

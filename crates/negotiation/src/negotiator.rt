@@ -1,9 +1,9 @@
 ghost use Rattle.std.specs.Prelude.{◌≡◌, true, IfOk};
+ghost use Rattle.reading.specs.Sides.{both};
 ghost use Rattle.games.specs.Listings.{listed_model, parked};
 ghost use Rattle.games.specs.SheetMachines.{machine_of};
 ghost use Rattle.checking.specs.Arenas.{arena, suits};
 ghost use Rattle.checking.specs.Controllers.{Controlled};
-ghost use Rattle.checking.specs.Searching.{both};
 ghost use Rattle.negotiation.specs.Negotiations.{Negotiates, Reached, Settles};
 
 use crate::refusals::Refusal;

@@ -2,16 +2,16 @@
 use Rattle.std.proofs.Common.{◌≡◌, ℕ, List, [], ◌∷◌, codes, Some, None, Ok, Err, refl}
 use Rattle.std.specs.Fmt.{digits}
 use Rattle.reading.specs.PhaseTables.{Table}
+use Rattle.reading.specs.Sides.{both}
 use Rattle.reading.specs.declared.sides.Sides.{Sides}
 use Rattle.games.specs.declared.deal.Terms.{Terms}
-use Rattle.checking.specs.Searching.{both}
 use Rattle.checking.specs.declared.faults.SolveFault.TheVariants.{NoController}
 use Rattle.reading.specs.declared.faults.ReadFault.TheVariants.{Short}
-use Rattle.games.specs.Signings.{numbers}
+use Rattle.games.specs.Signings.{deal_fault, numbers}
 use Rattle.games.specs.declared.deal.signing.Unsigned.TheVariants.{NotTerms, TooFar}
 use Rattle.bays.specs.declared.faults.BayFault.TheVariants.{Lengths}
 use Rattle.planning.specs.declared.refusals.Refusal.TheVariants.{Bay, Terms as Unagreed}
-use Rattle.planning.specs.Plans.{line, terms_fault, Planned}
+use Rattle.planning.specs.Plans.{line, Planned}
 use Rattle.planning.specs.Lines.{state_lines, table_lines, plan_lines}
 
 -- an empty input is refused whatever the terms, and so printed
@@ -27,9 +27,9 @@ abbrev one_phase : Table
 one_phase = record { phases = 1; signals0 = 2; signals1 = 2; entries = [] }
 
 -- terms that are agreed; too much is promised; terms that are not as described come before that
-deals : (terms_fault one_phase (both (terms 2 2) (terms 2 2)) ≡ None)
-    × (terms_fault one_phase (both (terms 3 2) (terms 2 2)) ≡ Some (numbers (TooFar 0 0)))
-    × (terms_fault one_phase (both (terms 3 2) (terms 0 2)) ≡ Some (numbers (NotTerms 1)))
+deals : (deal_fault one_phase (both (terms 2 2) (terms 2 2)) ≡ None)
+    × (deal_fault one_phase (both (terms 3 2) (terms 2 2)) ≡ Some (numbers (TooFar 0 0)))
+    × (deal_fault one_phase (both (terms 3 2) (terms 0 2)) ≡ Some (numbers (NotTerms 1)))
     × (line (Unagreed (NotTerms 1)) ≡ codes "refused 20")
 unfolding digits
 deals = (refl, refl, refl, refl)

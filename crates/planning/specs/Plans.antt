@@ -1,8 +1,8 @@
 -- What is planned from an input and both sides' terms: the first refusal, or what solving answers for each side.
-use Rattle.std.specs.Prelude.{◌≡◌, ℕ, List, [], ◌∷◌, ◌++◌, replicate, codes, decimal, vec_items, Some, None, Ok, Err, Option, Result}
+use Rattle.std.specs.Prelude.{◌≡◌, ℕ, List, [], ◌∷◌, ◌++◌, replicate, codes, decimal, vec_items, Some, None, Ok, Err, Result}
 use Rattle.reading.specs.Faults.{printed}
 use Rattle.reading.specs.RuleSheets.{automaton_in}
-use Rattle.reading.specs.PhaseTables.{Table, table_in, table_of}
+use Rattle.reading.specs.PhaseTables.{table_in, table_of}
 use Rattle.reading.specs.declared.phase_table.PhaseTable.{PhaseTable}
 use Rattle.reading.specs.declared.sides.Sides.{Sides}
 use Rattle.games.specs.declared.deal.Terms.{Terms}
@@ -10,8 +10,7 @@ use Rattle.games.specs.declared.deal.Deal.{Deal}
 use Rattle.games.specs.Machines.{Model, Marks}
 use Rattle.games.specs.Listings.{sheet_model}
 use Rattle.games.specs.Layers.{watched, watch_marks}
-use Rattle.games.specs.Deals.{Refusal as DealRefusal}
-use Rattle.games.specs.Signings.{Dealt, signing_fault}
+use Rattle.games.specs.Signings.{deal_fault, Dealt}
 use Rattle.games.specs.Signings.{numbers as sign_numbers}
 use Rattle.checking.specs.Solutions.{Solves, record_size}
 use Rattle.bays.specs.Inputs.{parts_in}
@@ -29,10 +28,6 @@ line (Unagreed f) = codes "refused " ++ decimal (sign_numbers f).number
 -- a refusal in print, and a line of words
 abbrev pub Tells : List ℕ → List ℕ → Type 0
 Tells l text = (why : List ℕ) × (text ≡ l ++ (10 ∷ (why ++ 10 ∷ [])))
-
--- the first refusal of both sides' terms on a table
-abbrev pub terms_fault : Table → Sides Terms → Option DealRefusal
-terms_fault t s = signing_fault t.phases t.signals0 t.signals1 s
 
 -- a plan is what solving answers, and its record what solving made of zeros
 pub record Answered (m : Model) (k : Marks) (t : PhaseTable) (d : Deal) (side : ℕ) (p : Plan) : Type 0 where
@@ -54,5 +49,5 @@ pub record BothPlanned (xs : List ℕ) (s : Sides Terms) (p : Plans) : Type 0 wh
 -- what is planned: the parts of the input are read in turn, then both sides' terms are signed, then each side is planned for
 abbrev pub Planned : List ℕ → Sides Terms → Result Plans Refusal → Type 0
 Planned xs s (Err (Bay f)) = bay_fault xs ≡ Some (blame f)
-Planned xs s (Err (Unagreed f)) = (bay_fault xs ≡ None) × (terms_fault (table_in (parts_in xs).table) s ≡ Some (sign_numbers f))
-Planned xs s (Ok p) = (bay_fault xs ≡ None) × (terms_fault (table_in (parts_in xs).table) s ≡ None) × BothPlanned xs s p
+Planned xs s (Err (Unagreed f)) = (bay_fault xs ≡ None) × (deal_fault (table_in (parts_in xs).table) s ≡ Some (sign_numbers f))
+Planned xs s (Ok p) = (bay_fault xs ≡ None) × (deal_fault (table_in (parts_in xs).table) s ≡ None) × BothPlanned xs s p

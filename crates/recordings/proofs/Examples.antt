@@ -2,9 +2,9 @@
 use Rattle.std.proofs.Common.{◌≡◌, ℕ, List, [], ◌∷◌, replicate, codes, Some, None, Ok, Err, refl}
 use Rattle.std.specs.Fmt.{digits}
 use Rattle.reading.specs.Faults.{fault}
+use Rattle.reading.specs.Sides.{both}
 use Rattle.reading.specs.declared.faults.ReadFault.TheVariants.{Entry}
 use Rattle.bays.specs.Bays.{at}
-use Rattle.checking.specs.Searching.{both}
 use Rattle.cell.specs.Faults.{bare}
 use Rattle.cell.specs.Logs.{to_offer, to_report, waits}
 use Rattle.recordings.specs.declared.recording.Mark.TheVariants.{Put, Unread}

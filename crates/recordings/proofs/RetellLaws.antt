@@ -2,10 +2,10 @@
 use Rattle.std.proofs.Common.{◌≡◌, List, ℕ, None, Ok, Err, Result, IfOk, String, Global, string_bytes, subst, sym, ◌∙◌}
 use Rattle.std.specs.declared.alloc.AllocError.{AllocError}
 use Rattle.reading.specs.RuleSheets.{Automaton}
+use Rattle.reading.specs.Sides.{both}
 use Rattle.reading.specs.declared.sides.Sides.{Sides}
 use Rattle.games.specs.Machines.{Model}
 use Rattle.games.specs.Layers.{watched, watch_marks}
-use Rattle.checking.specs.Searching.{both}
 use Rattle.cell.specs.Logs.{Games}
 use Rattle.cell.specs.Cells.{Replayed}
 use Rattle.recordings.specs.declared.recording.Recording.{Recording}

@@ -1,13 +1,10 @@
 -- What becomes of the calls of a recording: which are put to the cell, and as what.
 use Rattle.std.specs.Prelude.{◌≡◌, ℕ, ◌+◌, ◌<◌, ◌≤◌, List, [], ◌∷◌, ◌++◌, length, map, vec_items, Some, None, Ok, Err, Option, Result}
 use Rattle.reading.specs.Faults.{numbers as read_numbers}
-use Rattle.reading.specs.PhaseTables.{Table, table_in, table_of, phase_fault}
+use Rattle.reading.specs.PhaseTables.{table_in, table_of, phase_fault}
 use Rattle.reading.specs.declared.phase_table.PhaseTable.{PhaseTable}
-use Rattle.reading.specs.declared.sides.Sides.{Sides}
-use Rattle.games.specs.declared.deal.Terms.{Terms}
 use Rattle.games.specs.declared.deal.signing.Unsigned.{Unsigned}
-use Rattle.games.specs.Deals.{Refusal}
-use Rattle.games.specs.Signings.{Dealt, signing_fault}
+use Rattle.games.specs.Signings.{deal_fault, Dealt}
 use Rattle.games.specs.Signings.{numbers as sign_numbers}
 use Rattle.cell.specs.Logs.{Event, offered, reported, asked, Offering}
 use Rattle.cell.specs.Cells.{event}
@@ -19,15 +16,11 @@ use Rattle.recordings.specs.declared.recording.Calls.{Calls}
 use Rattle.recordings.specs.Damages.{numbers}
 use Rattle.recordings.specs.Calls.{Bidding, Said, offer, report, ask, Says, call_end, call_fault}
 
--- the first refusal of an offer's terms on a table
-abbrev pub terms_fault : Table → Sides Terms → Option Refusal
-terms_fault t s = signing_fault t.phases t.signals0 t.signals1 s
-
 -- an offer of what was recorded: the phase table as its bytes have it, the deal of the terms on it, the records' bytes
 pub record Offers (b : Bidding) (o : Offering) : Type 0 where
   pub readable : phase_fault b.table ≡ None
   pub table : table_of o.table ≡ table_in b.table
-  pub agreed : terms_fault (table_in b.table) b.terms ≡ None
+  pub agreed : deal_fault (table_in b.table) b.terms ≡ None
   pub dealt : Dealt o.table.sizes b.terms o.deal
   pub records : o.records ≡ b.records
 
@@ -36,7 +29,7 @@ pub record Offers (b : Bidding) (o : Offering) : Type 0 where
 abbrev pub Becomes : Said → Mark → List Event → Type 0
 Becomes (offer b) Put (offered o ∷ []) = Offers b o
 Becomes (offer b) (Unread f) [] = phase_fault b.table ≡ Some (read_numbers f)
-Becomes (offer b) (Unsignable f) [] = (phase_fault b.table ≡ None) × (terms_fault (table_in b.table) b.terms ≡ Some (sign_numbers f))
+Becomes (offer b) (Unsignable f) [] = (phase_fault b.table ≡ None) × (deal_fault (table_in b.table) b.terms ≡ Some (sign_numbers f))
 Becomes (report r) Put (e ∷ []) = e ≡ reported r
 Becomes (ask q) Put (e ∷ []) = e ≡ asked q
 Becomes s m es = ⊥
@@ -86,6 +79,6 @@ pub record Keeps (s : Said) (x y : Calls) : Type 0 where
 
 -- an offer on a table that was read
 abbrev pub Owned : PhaseTable → Bidding → Result OwnedOffer Unsigned → Type 0
-Owned t b (Err f) = terms_fault (table_of t) b.terms ≡ Some (sign_numbers f)
-Owned t b (Ok o) = (o.table ≡ t) × (terms_fault (table_of t) b.terms ≡ None) × (Dealt t.sizes b.terms o.deal)
+Owned t b (Err f) = deal_fault (table_of t) b.terms ≡ Some (sign_numbers f)
+Owned t b (Ok o) = (o.table ≡ t) × (deal_fault (table_of t) b.terms ≡ None) × (Dealt t.sizes b.terms o.deal)
     × (record { first = vec_items o.records.first; second = vec_items o.records.second } ≡ b.records)

@@ -3,6 +3,7 @@ use Rattle.std.specs.Prelude.{◌≡◌, ℕ, zero, suc, ◌+◌, List, [], ◌+
 use Rattle.std.specs.Option.{option_map}
 use Rattle.reading.specs.Firsts.{first_some, unless}
 use Rattle.reading.specs.RuleSheets.{automaton_in, automaton_of}
+use Rattle.reading.specs.Sides.{both}
 use Rattle.reading.specs.declared.sides.Sides.{Sides}
 use Rattle.games.specs.declared.sheet_machine.SheetMachine.{SheetMachine}
 use Rattle.games.specs.declared.watched.Watched.{Watched}
@@ -10,7 +11,6 @@ use Rattle.games.specs.Listings.{sheet_model}
 use Rattle.games.specs.SheetMachines.{machine_of}
 use Rattle.games.specs.Layers.{watched, watch_marks}
 use Rattle.games.specs.WatchedSheets.{Plays}
-use Rattle.checking.specs.Searching.{both}
 use Rattle.bays.specs.Inputs.{Parts, parts_in, size_in}
 use Rattle.bays.specs.Bays.{Blame, bay_fault}
 use Rattle.cell.specs.Logs.{Games, Told, Event}

@@ -2,7 +2,7 @@
 use Rattle.std.proofs.Common.{◌≡◌, ℕ, [], ◌∷◌, ◌++◌, codes, Ok, Err, Some, None, refl}
 use Rattle.std.specs.Fmt.{digits}
 use Rattle.reading.specs.PhaseTables.{Table}
-use Rattle.reading.specs.declared.sides.Sides.{Sides}
+use Rattle.reading.specs.Sides.{both}
 use Rattle.reading.specs.declared.faults.ReadFault.TheVariants.{Entry}
 use Rattle.games.specs.declared.deal.Terms.{Terms}
 use Rattle.games.specs.declared.watched.sheets.SheetsFault.TheVariants.{Rule}
@@ -22,9 +22,6 @@ lines = (refl, refl, refl)
 
 abbrev terms : ℕ → ℕ → Terms
 terms x y = record { promise = x; reliance = y }
-
-abbrev both : Terms → Terms → Sides Terms
-both x y = record { first = x; second = y }
 
 -- two signals each way
 one_phase : Table

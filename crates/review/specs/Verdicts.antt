@@ -15,7 +15,7 @@ use Rattle.games.specs.Listings.{sheet_model}
 use Rattle.games.specs.Layers.{watched, watch_marks}
 use Rattle.games.specs.WatchedSheets.{Blame, blame, sheets_fault}
 use Rattle.games.specs.Deals.{Refusal as DealRefusal}
-use Rattle.games.specs.Signings.{Dealt, signing_fault}
+use Rattle.games.specs.Signings.{deal_fault, Dealt}
 use Rattle.games.specs.Signings.{numbers as sign_numbers}
 use Rattle.checking.specs.Faults.{Refusal as CheckRefusal}
 use Rattle.checking.specs.Faults.{numbers as check_numbers}
@@ -49,7 +49,7 @@ sheets_line sheet rule = option_map (λ (b : Blame). printed b.fault) (sheets_fa
 
 -- the refusal of both sides' terms on a table, in print
 abbrev pub terms_line : Table → Sides Terms → Option (List ℕ)
-terms_line t s = option_map (λ (r : DealRefusal). numbered r.number) (signing_fault t.phases t.signals0 t.signals1 s)
+terms_line t s = option_map (λ (r : DealRefusal). numbered r.number) (deal_fault t s)
 
 -- the first refusal before any check: a sheet of the machine, the phase table, the terms
 abbrev pub early_line : Case → Option (List ℕ)

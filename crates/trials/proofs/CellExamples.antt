@@ -1,12 +1,12 @@
 -- What the definitions of the cell say in small cases, computed.
 use Rattle.std.proofs.Common.{◌≡◌, ℕ, List, [], ◌∷◌, true, false, Some, None, Ok, Err, refl, ap}
+use Rattle.reading.specs.Sides.{both}
 use Rattle.reading.specs.declared.sides.Sides.{Sides}
 use Rattle.reading.specs.declared.phase_table.PhaseTable.{PhaseTable}
 use Rattle.reading.specs.Firsts.{first_some}
 use Rattle.reading.specs.PhaseTables.{Table, table_of, table_in, next_phase}
 use Rattle.games.specs.declared.deal.Deal.{Deal}
 use Rattle.games.specs.Machines.{Model, Marks}
-use Rattle.checking.specs.Searching.{both}
 use Rattle.cell.specs.declared.copies.Standing.{Standing}
 use Rattle.cell.specs.declared.calls.Question.{Question}
 use Rattle.cell.specs.declared.calls.Question.TheVariants as question

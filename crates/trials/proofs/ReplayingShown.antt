@@ -1,11 +1,11 @@
 -- What a cell of two toggles answers, call by call.
 use Rattle.std.proofs.Common.{◌≡◌, ℕ, ◌<◌, None, Ok, Err, Some, refl, ap, ◌∙◌, arith}
 use Rattle.std.specs.Option.{option_map}
+use Rattle.reading.specs.Sides.{both}
 use Rattle.reading.specs.declared.phase_table.PhaseTable.{PhaseTable}
 use Rattle.reading.specs.PhaseTables.{table_of, next_phase}
 use Rattle.games.specs.declared.deal.Deal.{Deal}
 use Rattle.checking.specs.Checks.{check_fault}
-use Rattle.checking.specs.Searching.{both}
 use Rattle.checking.proofs.PlayLaws.{follow_low}
 use Rattle.cell.specs.Faults.{bare, about}
 use Rattle.cell.specs.Logs.{Log, Offering, to_offer, to_report, first, signals, moved, answers_offer, answers_report, all_answers}

@@ -2,6 +2,7 @@
 use Rattle.std.proofs.Common.{◌≡◌, ℕ, zero, suc, ◌-◌, ◌<◌, true, List, [], ◌∷◌, length, get_or, Some, None, Ok, Err, Result, sym, refl, ap, ◌∙◌, subst, inl, inr, arith}
 use Rattle.std.proofs.lemmas.Bool.{cases_lt, true≢false}
 use Rattle.reading.specs.Bytes.{within}
+use Rattle.reading.specs.Sides.{both}
 use Rattle.reading.specs.declared.sides.Sides.{Sides}
 use Rattle.reading.specs.declared.phase_table.PhaseTable.{PhaseTable}
 use Rattle.reading.proofs.FirstLaws.{not_some}
@@ -15,7 +16,7 @@ use Rattle.checking.specs.declared.faults.SearchFault.TheVariants as fault
 use Rattle.checking.specs.declared.search.Agreement.{Agreement}
 use Rattle.checking.specs.Arenas.{arena, relied}
 use Rattle.checking.specs.Controllers.{Controlled}
-use Rattle.checking.specs.Searching.{both, promises, candidates, candidate, how_many, terms_of, search_head, Searches, Workable, NoneBefore}
+use Rattle.checking.specs.Searching.{promises, candidates, candidate, how_many, terms_of, search_head, Searches, Workable, NoneBefore}
 use Rattle.checking.proofs.CandidateLaws.{candidate_deal}
 use Rattle.checking.proofs.SearchingLaws.{untold}
 use Rattle.trials.specs.Toggles.{watched_toggle, toggle_marks, OnePhase, Meets}

@@ -6,7 +6,7 @@ use Rattle.reading.specs.declared.sizes.Sizes.{Sizes}
 use Rattle.reading.specs.declared.phase_table.PhaseTable.{PhaseTable}
 use Rattle.reading.specs.Marks.{implies}
 use Rattle.reading.specs.PhaseTables.{Table, table_in, next_phase}
-use Rattle.reading.specs.Sides.{pick}
+use Rattle.reading.specs.Sides.{both, pick}
 use Rattle.reading.proofs.Padding.{appended_below}
 use Rattle.games.specs.Sets.{width, has}
 use Rattle.games.specs.declared.deal.Deal.{Deal}
@@ -16,7 +16,7 @@ use Rattle.games.specs.LiftLaws.{inside}
 use Rattle.games.proofs.SetLaws.{all_at}
 use Rattle.checking.specs.Arenas.{Arena, arena, suits, promised, relied}
 use Rattle.checking.specs.Checks.{check_fault}
-use Rattle.checking.specs.Searching.{both, terms_of}
+use Rattle.checking.specs.Searching.{terms_of}
 use Rattle.trials.specs.Witness.{follows, leader, follower, marks, table, promises, Stands, keeping}
 use Rattle.trials.proofs.Played.{by_plan}
 

@@ -1,12 +1,12 @@
 -- The bay of two phases runs, call by call.
 use Rattle.std.proofs.Common.{◌≡◌, ℕ, ◌+◌, ◌≤◌, true, false, cond, take, drop, Some, None, Ok, Err, refl, ap, ◌∙◌, arith}
 use Rattle.std.specs.Option.{option_map}
+use Rattle.reading.specs.Sides.{both}
 use Rattle.reading.specs.declared.phase_table.PhaseTable.{PhaseTable}
 use Rattle.reading.specs.PhaseTables.{Table, table_of, table_in, next_phase}
 use Rattle.games.specs.Sets.{width, has}
 use Rattle.games.specs.declared.deal.Deal.{Deal}
 use Rattle.games.specs.Machines.{forbidden_in, goal_in}
-use Rattle.checking.specs.Searching.{both}
 use Rattle.cell.specs.declared.copies.Standing.{Standing}
 use Rattle.cell.specs.Faults.{bare, about}
 use Rattle.cell.specs.Logs.{Log, Offering, to_offer, to_report, own, run, first, signals, ranks, choice_fault, phase_after, moves, moved, answers_offer, answers_report}

@@ -1,8 +1,8 @@
 -- Six calls to a cell of two watched toggles, on one phase with two signals each way, under a deal on signal 1 of both sides.
 use Rattle.std.specs.Prelude.{◌≡◌, ℕ, List, [], ◌∷◌, length, map, Ok, Err}
+use Rattle.reading.specs.Sides.{both}
 use Rattle.reading.specs.declared.phase_table.PhaseTable.{PhaseTable}
 use Rattle.games.specs.declared.deal.Deal.{Deal}
-use Rattle.checking.specs.Searching.{both}
 use Rattle.cell.specs.declared.calls.Answer.{Answer}
 use Rattle.cell.specs.declared.calls.Question.TheVariants as question
 use Rattle.cell.specs.Faults.{bare}

@@ -1,12 +1,13 @@
 -- Searching for a deal of two watched toggles, on one phase with two signals each way.
 use Rattle.std.specs.Prelude.{◌≡◌, ℕ, Some, Ok, Err, Result}
+use Rattle.reading.specs.Sides.{both}
 use Rattle.reading.specs.declared.sides.Sides.{Sides}
 use Rattle.reading.specs.declared.phase_table.PhaseTable.{PhaseTable}
 use Rattle.games.specs.Machines.{Model, Marks}
 use Rattle.games.specs.Signings.{Dealt}
 use Rattle.checking.specs.declared.faults.SearchFault.{SearchFault}
 use Rattle.checking.specs.declared.search.Agreement.{Agreement}
-use Rattle.checking.specs.Searching.{both, terms_of, search_number, search_tries, Searches}
+use Rattle.checking.specs.Searching.{terms_of, search_number, search_tries, Searches}
 use Rattle.trials.specs.Toggles.{watched_toggle, toggle_marks, OnePhase}
 
 -- a watched toggle for each side

@@ -1,9 +1,9 @@
 -- Examples that are shown from the definitions.
 use Rattle.std.specs.Prelude.{◌≡◌, ℕ, true, false, Some, None}
+use Rattle.reading.specs.Sides.{both}
 use Rattle.games.specs.Machines.{goal_in}
 use Rattle.games.specs.declared.deal.Terms.{Terms}
 use Rattle.games.specs.Signings.{signing_fault}
-use Rattle.checking.specs.Searching.{both}
 use Rattle.trials.specs.Toggles.{watched_toggle, toggle_marks}
 
 -- the watched toggle has 4 states, start 0 and goals 1 and 3; under signals 1 and 1 state 0 moves to 3 only

@@ -2,13 +2,14 @@
 -- meet.
 use Rattle.std.specs.Prelude.{◌≡◌, ℕ, List, [], ◌∷◌}
 use Rattle.reading.specs.RuleSheets.{automaton_in}
+use Rattle.reading.specs.Sides.{both}
 use Rattle.reading.specs.declared.phase_table.PhaseTable.{PhaseTable}
 use Rattle.games.specs.declared.deal.Deal.{Deal}
 use Rattle.games.specs.Machines.{Model, Marks}
 use Rattle.games.specs.Listings.{sheet_model}
 use Rattle.games.specs.Layers.{watched, watch_marks}
 use Rattle.games.specs.Signings.{Dealt}
-use Rattle.checking.specs.Searching.{both, terms_of}
+use Rattle.checking.specs.Searching.{terms_of}
 
 -- its machine sheet
 abbrev pub toggle : List ℕ

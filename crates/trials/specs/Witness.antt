@@ -1,12 +1,13 @@
 -- A bay of two phases whose cell runs: offers are accepted in both phases, a goal is met after a wait, and the law holds all the way.
 use Rattle.std.specs.Prelude.{◌≡◌, ℕ, ◌<◌, cond, ◌&&◌, List, [], ◌∷◌, take, drop, Some, None, Ok, Err, ◌==◌}
+use Rattle.reading.specs.Sides.{both}
 use Rattle.reading.specs.declared.sides.Sides.{Sides}
 use Rattle.reading.specs.declared.phase_table.PhaseTable.{PhaseTable}
 use Rattle.reading.specs.PhaseTables.{table_in, table_of}
 use Rattle.games.specs.declared.deal.Deal.{Deal}
 use Rattle.games.specs.Machines.{Model, Marks, Lawful, in_range}
 use Rattle.games.specs.Signings.{Dealt}
-use Rattle.checking.specs.Searching.{both, terms_of}
+use Rattle.checking.specs.Searching.{terms_of}
 use Rattle.cell.specs.declared.calls.Question.TheVariants as question
 use Rattle.cell.specs.Faults.{bare}
 use Rattle.cell.specs.Logs.{Games, Offering, Log, Event, Told, offered, reported, asked, to_offer, to_report, own, ranks, phase, waits, signals_shown, ranks_shown, first, run, all_answers}

@@ -1,7 +1,8 @@
 ghost use Rattle.std.specs.Prelude.{◌≡◌, map, IfOk};
+ghost use Rattle.reading.specs.Sides.{both};
 ghost use Rattle.games.specs.Signings.{Dealt};
 ghost use Rattle.games.specs.WatchedSheets.{Plays};
-ghost use Rattle.checking.specs.Searching.{both, terms_of};
+ghost use Rattle.checking.specs.Searching.{terms_of};
 ghost use Rattle.cell.specs.Logs.{reported};
 ghost use Rattle.cell.specs.Cells.{event, told};
 ghost use Rattle.trials.specs.Toggles.{toggle, rule, OnePhase};

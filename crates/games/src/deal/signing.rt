@@ -1,6 +1,7 @@
 ghost use Rattle.std.specs.Prelude.{◌≡◌, ◌++◌, Some, IfOk, codes, decimal};
+ghost use Rattle.reading.specs.PhaseTables.{table_of};
 ghost use Rattle.games.specs.Deals.{numbers as talk_numbers};
-ghost use Rattle.games.specs.Signings.{Dealt, numbers, refused, signing_fault};
+ghost use Rattle.games.specs.Signings.{deal_fault, Dealt, numbers, refused};
 
 use crate::deal::talk::{Talk, TalkFault};
 use crate::deal::{Deal, Terms};
@@ -72,7 +73,7 @@ impl Error for Unsigned {}
 
 /// The deal of both sides' terms on a table, by a talk: side 0 bids, side 1 replies, and the reply is signed.
 pub fn sign(table: &PhaseTable, terms: Sides<Terms>) -> Result<Deal, Unsigned>
-    ensures first { refused result ≡ signing_fault table.now.sizes.phases table.now.sizes.signals.first table.now.sizes.signals.second terms }
+    ensures first { refused result ≡ deal_fault (table_of table.now) terms }
     ensures value { IfOk result (Dealt table.now.sizes terms) }
 {
     // what comes back is closed, and bound whole before it is taken apart

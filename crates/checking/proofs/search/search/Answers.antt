@@ -1,8 +1,9 @@
 use Rattle.std.proofs.Common.{rules, ◌≡◌, true, leb, arith}
 use Rattle.reading.specs.Bytes.{within}
 use Rattle.games.specs.Machines.{Model}
+use Rattle.reading.specs.Sides.{both}
 use Rattle.reading.specs.declared.sides.Sides.{Sides}
-use Rattle.checking.specs.Searching.{both, meet, how_many}
+use Rattle.checking.specs.Searching.{meet, how_many}
 use Rattle.checking.proofs.SearchingLaws.{agreed, spent, none_at_all, untold}
 use Rattle.checking.proofs.search.search.Goals as goal
 

@@ -1,7 +1,8 @@
 use Rattle.std.proofs.Common.{rules}
 use Rattle.games.specs.Machines.{Model, Marks}
+use Rattle.reading.specs.Sides.{both}
 use Rattle.reading.specs.declared.sides.Sides.{Sides}
-use Rattle.checking.specs.Searching.{both, Agreed}
+use Rattle.checking.specs.Searching.{Agreed}
 use Rattle.negotiation.proofs.NegotiationLaws.{first_suits, second_suits, settled}
 use Rattle.negotiation.proofs.negotiator.settle.Goals as goal
 

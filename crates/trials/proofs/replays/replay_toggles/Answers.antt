@@ -1,5 +1,6 @@
 use Rattle.std.proofs.Common.{◌≡◌, List, map, replicate, refl, ap, ◌∙◌, subst}
 use Rattle.reading.specs.RuleSheets.{Automaton, automaton_in, automaton_of}
+use Rattle.reading.specs.Sides.{both}
 use Rattle.games.specs.declared.sheet_machine.SheetMachine.{SheetMachine}
 use Rattle.games.specs.declared.watched.Watched.{Watched}
 use Rattle.games.specs.Layers.{watched, watch_marks}
@@ -7,7 +8,6 @@ use Rattle.games.specs.Listings.{sheet_model}
 use Rattle.games.specs.Machines.{Model, Marks}
 use Rattle.games.specs.SheetMachines.{machine_of}
 use Rattle.games.specs.WatchedSheets.{Plays}
-use Rattle.checking.specs.Searching.{both}
 use Rattle.cell.specs.declared.calls.Answer.{Answer}
 use Rattle.cell.specs.declared.calls.Answer.TheVariants.{Phase}
 use Rattle.cell.specs.Logs.{Games, Event}

@@ -1,7 +1,8 @@
 use Rattle.std.proofs.Common.{◌+◌, ◌*◌, Some, length, get_or, not, vec_items, refl, sym, subst, arith}
+use Rattle.reading.specs.Sides.{both}
 use Rattle.reading.specs.declared.sides.Sides.{Sides}
 use Rattle.checking.specs.declared.snapshot.Snapshot.{Snapshot}
-use Rattle.checking.specs.Searching.{both, candidate}
+use Rattle.checking.specs.Searching.{candidate}
 use Rattle.checking.specs.Verdicts.{Ordered, Verdict, upward}
 use Rattle.checking.proofs.CandidateLaws.{place_below, candidate_at, candidate_deal}
 use Rattle.checking.proofs.VerdictLaws.{decided, noted}
