@@ -94,8 +94,8 @@ stays_on g l (asked q) on = on
 
 -- what of every log with an offer in force comes nearer with each call, and is there at rank 0, is there in time
 module _ (g : Games) (side : ℕ)
-  (nearer : (a : Standing) (o : Offering) → BothRun g o a → at_goal g (log a (Some o)) side ≡ false → (e : Event) → Nearer g (log a (Some o)) e side)
-  (there : (a : Standing) (o : Offering) → BothRun g o a → own side (ranks (log a (Some o))) ≡ 0 → at_goal g (log a (Some o)) side ≡ true) where
+    (nearer : (a : Standing) (o : Offering) → BothRun g o a → at_goal g (log a (Some o)) side ≡ false → (e : Event) → Nearer g (log a (Some o)) e side)
+    (there : (a : Standing) (o : Offering) → BothRun g o a → own side (ranks (log a (Some o))) ≡ 0 → at_goal g (log a (Some o)) side ≡ true) where
   nearer_in : (a : Standing) (f : Option Offering) → Good g (log a f) → is_some f ≡ true → at_goal g (log a f) side ≡ false → (e : Event) → Nearer g (log a f) e side
   nearer_in a None h on = absurd (not_true on)
   nearer_in a (Some o) h on = nearer a o h
