@@ -3,8 +3,10 @@ use Rattle.std.proofs.Common.{◌≡◌, ℕ, List, [], ◌∷◌, Some, None, O
 use Rattle.reading.specs.declared.sides.Sides.{Sides}
 use Rattle.cell.specs.declared.calls.Question.TheVariants.{States, Phase, Waits, Signals, Ranks}
 use Rattle.cell.specs.Faults.{Refusal}
-use Rattle.cell.specs.Logs.{Games, Log, Event, offered, reported, asked, to_offer, Offering, run, answers, after, all_answers, answers_offer, answers_report, offer_fault, bounds_of, unless_refused, unless_err, in_force, moved}
-use Rattle.cell.specs.Law.{if_accepted, accepted_by, last_accepted, raised, largest_answered}
+use Rattle.cell.specs.Logs.{Games, Log, Event, offered, reported, asked, to_offer, Offering, first, run, answers, after, all_answers, answers_offer, answers_report, offer_fault, bounds_of, unless_refused, unless_err, in_force, moved}
+use Rattle.cell.specs.Running.{Good}
+use Rattle.cell.proofs.LogLaws.{lawful}
+use Rattle.cell.specs.Law.{Law, if_accepted, accepted_by, last_accepted, raised, largest_answered}
 
 offer_force : (r : Result (Sides ℕ) Refusal) (o : Offering) (l : Log) → (unless_err r (in_force o l) l).force ≡ if_accepted (to_offer r) (Some o) l.force
 offer_force (Ok b) o l = refl
@@ -44,3 +46,7 @@ pub bounds_run : (g : Games) (es : List Event) (l : Log) → (run g es l).at.bou
 unfolding run all_answers largest_answered
 bounds_run g [] l = refl
 bounds_run g (e ∷ es) l = bounds_run g es (after g l e) ∙ ap (largest_answered (all_answers g es (after g l e))) (bounds_after g l e)
+
+-- the law after some calls, from what their log keeps
+pub law_by : (g : Games) (events : List Event) → Good g (run g events (first g)) → Law g events
+law_by g events good = record { force = force_run g events (first g); bounds = bounds_run g events (first g); holds = lawful g (run g events (first g)) good }

@@ -18,6 +18,8 @@ use Rattle.cell.specs.Running.{Good, BothRun}
 use Rattle.cell.specs.Cells.{shown, seen, copied, counted, Advanced, games, both_mean, offering, owned, event, Heard, Answered}
 use Rattle.cell.proofs.AnswerLaws.{answer_moved, answer_refused}
 use Rattle.cell.proofs.LogLaws.{good_moved}
+use Rattle.cell.proofs.GoalLaws.{nears}
+use Rattle.cell.proofs.AcceptedLaws.{law_by}
 
 pub run_more : (g : Games) (es : List Event) (e : Event) (l : Log) → run g (es ++ e ∷ []) l ≡ after g (run g es l) e
 unfolding run
@@ -47,6 +49,8 @@ module _ {A B : Type 0} (m0 : A → Model) (k0 : A → Marks) (m1 : B → Model)
               (k.0 ∙ ap (λ l. after (mean x) l e) t.same ∙ sym (run_more (mean x) events e (first (mean x))));
           good = subst (λ (b : Games). Good b (seen y)) (same_games x y p q) (subst (Good (mean x)) (sym k.0) k.1);
         };
+    law = λ events t. law_by (mean x) (events ++ e ∷ []) (subst (Good (mean x)) (ap (λ l. after (mean x) l e) t.same ∙ sym (run_more (mean x) events e (first (mean x)))) (h t.good).1);
+    nears = λ events t on. nears (mean x) (seen x) e t.good on;
   }
 
   pub question_heard : (x : Cell A B) (q : Question) (r : Told) → Answered m0 k0 m1 k1 x q r → Heard m0 k0 m1 k1 x (asked q) r x

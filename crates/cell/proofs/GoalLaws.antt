@@ -6,8 +6,8 @@ use Rattle.cell.specs.declared.copies.Standing.{Standing}
 use Rattle.cell.specs.declared.calls.Question.{Question}
 use Rattle.cell.specs.declared.calls.Question.TheVariants.{States, Phase, Waits, Signals, Ranks}
 use Rattle.cell.specs.Faults.{Refusal}
-use Rattle.cell.specs.Logs.{Games, Log, Event, offered, reported, asked, to_offer, to_report, Offering, own, first, ranks, record_fault, change_fault, changes_fault, offer_fault, bounds_of, in_force, moved, answers_offer, answers_report, answers_question, answers, after, unless_err, run, all_answers}
-use Rattle.cell.specs.Law.{BothMove, Accepted, at_goal, tick, ticks, InTime}
+use Rattle.cell.specs.Logs.{Games, Log, Event, offered, reported, asked, to_offer, to_report, Offering, own, first, ranks, record_fault, change_fault, changes_fault, offer_fault, bounds_of, in_force, moved, answers_offer, answers_report, answers_question, after, unless_err, run, all_answers}
+use Rattle.cell.specs.Law.{BothMove, Accepted, at_goal, tick, ticks, Nears, InTime}
 use Rattle.cell.specs.Running.{BothRun, Good}
 use Rattle.cell.proofs.AnswerLaws.{accepted, changes, moves_from_accepted}
 use Rattle.cell.proofs.LogLaws.{log, choice_serves, shown_relied}
@@ -22,10 +22,7 @@ module _ (g : Games) (o : Offering) (a : Standing) (h : BothRun g o a) (to : Sid
   unfolding moved
   second_falls e = (choice_serves g o a h 1 h.second).falls _ to.second (shown_relied g o a h 0 h.first) can.1 e
 
--- a side is nearer after a call, unless its machine is at a goal
-abbrev Nearer : Games → Log → Event → ℕ → Type 0
-Nearer g l e side = own side (ranks (after g l e)) + tick (answers g l e) ≤ own side (ranks l)
-
+-- what a report and an offer make of a rank
 report_nearer : (g : Games) (l : Log) (to : Sides ℕ) (side : ℕ) (r : Result (Sides ℕ) Refusal) → (Accepted r → own side (ranks (moved g to l)) < own side (ranks l)) →
     own side (ranks (unless_err r (moved g to l) l)) + tick (to_report r) ≤ own side (ranks l)
 report_nearer g l to side (Ok x) h = omega (arith, h (x, refl))
@@ -59,15 +56,15 @@ module _ (g : Games) (was : Offering) (a : Standing) where
   second_stays o h = (changes a (ranks running) o 1 (none_right (change_fault a (ranks running) o 0) _ (no_change_fault o h))).1
 
   module _ (h : BothRun g was a) where
-    first_nearer : at_goal g running 0 ≡ false → (e : Event) → Nearer g running e 0
-    first_nearer n (offered o) = offer_nearer g running o 0 (answers_offer g running o) (first_stays o)
-    first_nearer n (reported to) = report_nearer g running to 0 (answers_report g running to) (λ r. first_falls g was a h to (moves_from_accepted g running to r) n)
-    first_nearer n (asked q) = omega (arith, no_tick running q)
+    first_nearer : (e : Event) → Nears g running e 0
+    first_nearer (offered o) n = offer_nearer g running o 0 (answers_offer g running o) (first_stays o)
+    first_nearer (reported to) n = report_nearer g running to 0 (answers_report g running to) (λ r. first_falls g was a h to (moves_from_accepted g running to r) n)
+    first_nearer (asked q) n = omega (arith, no_tick running q)
 
-    second_nearer : at_goal g running 1 ≡ false → (e : Event) → Nearer g running e 1
-    second_nearer n (offered o) = offer_nearer g running o 1 (answers_offer g running o) (second_stays o)
-    second_nearer n (reported to) = report_nearer g running to 1 (answers_report g running to) (λ r. second_falls g was a h to (moves_from_accepted g running to r) n)
-    second_nearer n (asked q) = omega (arith, no_tick running q)
+    second_nearer : (e : Event) → Nears g running e 1
+    second_nearer (offered o) n = offer_nearer g running o 1 (answers_offer g running o) (second_stays o)
+    second_nearer (reported to) n = report_nearer g running to 1 (answers_report g running to) (λ r. second_falls g was a h to (moves_from_accepted g running to r) n)
+    second_nearer (asked q) n = omega (arith, no_tick running q)
 
 -- a machine of rank 0 is at a goal
 module _ (g : Games) (o : Offering) (a : Standing) (h : BothRun g o a) where
@@ -94,9 +91,9 @@ stays_on g l (asked q) on = on
 
 -- what of every log with an offer in force comes nearer with each call, and is there at rank 0, is there in time
 module _ (g : Games) (side : ℕ)
-    (nearer : (a : Standing) (o : Offering) → BothRun g o a → at_goal g (log a (Some o)) side ≡ false → (e : Event) → Nearer g (log a (Some o)) e side)
+    (nearer : (a : Standing) (o : Offering) → BothRun g o a → (e : Event) → Nears g (log a (Some o)) e side)
     (there : (a : Standing) (o : Offering) → BothRun g o a → own side (ranks (log a (Some o))) ≡ 0 → at_goal g (log a (Some o)) side ≡ true) where
-  nearer_in : (a : Standing) (f : Option Offering) → Good g (log a f) → is_some f ≡ true → at_goal g (log a f) side ≡ false → (e : Event) → Nearer g (log a f) e side
+  nearer_in : (a : Standing) (f : Option Offering) → Good g (log a f) → is_some f ≡ true → (e : Event) → Nears g (log a f) e side
   nearer_in a None h on = absurd (not_true on)
   nearer_in a (Some o) h on = nearer a o h
 
@@ -113,7 +110,7 @@ module _ (g : Games) (side : ℕ)
   unfolding run all_answers ticks
   first_call true e es l at good on low rest = (0, at)
   first_call false e es l at good on low rest =
-      let next = rest (stays_on g l e on) (omega (arith, low, nearer_in l.at l.force good on at e)) in
+      let next = rest (stays_on g l e on) (omega (arith, low, nearer_in l.at l.force good on e at)) in
       (suc next.0, next.1)
 
   reached : (later : List Event) (l : Log) → ((k : ℕ) → Good g (run g (take k later) l)) → is_some l.force ≡ true → own side (ranks l) ≤ ticks (all_answers g later l) → Leads later l
@@ -127,6 +124,12 @@ unfolding run
 later g zero events l good = good
 later g (suc n) [] l good = good
 later g (suc n) (e ∷ es) l good = later g n es (after g l e) (λ k. good (suc k))
+
+pub nears : (g : Games) (l : Log) (e : Event) → Good g l → is_some l.force ≡ true → Nears g l e 0 × Nears g l e 1
+nears g l e good on = (
+  nearer_in g 0 (λ a o h. first_nearer g o a h) (λ a o h. first_there g o a h) l.at l.force good on e,
+  nearer_in g 1 (λ a o h. second_nearer g o a h) (λ a o h. second_there g o a h) l.at l.force good on e,
+)
 
 pub in_time : (g : Games) (events : List Event) → ((k : ℕ) → Good g (run g (take k events) (first g))) → (n : ℕ) → InTime g (take n events) (drop n events) 0 × InTime g (take n events) (drop n events) 1
 in_time g events good n =

@@ -10,8 +10,7 @@ use Rattle.cell.specs.declared.calls.Call.{Call}
 use Rattle.cell.specs.Logs.{Games, Log, Event, Told, first, run, answers, after, all_answers}
 use Rattle.cell.specs.Running.{Good}
 use Rattle.cell.specs.Cells.{told, event, games, both_mean, Tells, Heard, Made, Replayed, Fills}
-use Rattle.cell.proofs.LogLaws.{lawful}
-use Rattle.cell.proofs.AcceptedLaws.{force_run, bounds_run}
+use Rattle.cell.proofs.AcceptedLaws.{law_by}
 use Rattle.cell.proofs.GoalLaws.{in_time}
 
 -- one more call at the end
@@ -77,7 +76,7 @@ module _ {A B : Type 0} (m0 : A → Model) (k0 : A → Marks) (m1 : B → Model)
   replayed_by : (events : List Event) (given : List Told) → given ≡ all_answers g events (first g) → ((n : ℕ) → Good g (run g (take n events) (first g))) → Replayed g events given
   replayed_by events given e goods = record {
     answered = e;
-    law = λ n. record { force = force_run g (take n events) (first g); bounds = bounds_run g (take n events) (first g); holds = lawful g _ (goods n) };
+    law = λ n. law_by g (take n events) (goods n);
     in_time = in_time g events goods;
   }
 

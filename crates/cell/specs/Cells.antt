@@ -1,5 +1,5 @@
 -- What a cell shows, and what its calls do to the log that it shows.
-use Rattle.std.specs.Prelude.{◌≡◌, ℕ, ◌+◌, ◌-◌, ◌^◌, min, Bool, cond, List, [], ◌∷◌, ◌++◌, length, map, take, drop, Some, None, Option, Result, IfErr, vec_items}
+use Rattle.std.specs.Prelude.{◌≡◌, ℕ, ◌+◌, ◌-◌, ◌^◌, min, Bool, cond, List, [], ◌∷◌, ◌++◌, length, map, take, drop, Some, None, Option, Result, IfErr, vec_items, true, is_some}
 use Rattle.std.specs.Option.{option_map}
 use Rattle.std.specs.Result.{result_map_both, result_err}
 use Rattle.reading.specs.Records.{parts_in, bound_of}
@@ -23,7 +23,7 @@ use Rattle.cell.specs.declared.calls.Call.{Call}
 use Rattle.cell.specs.declared.calls.Call.TheVariants as call
 use Rattle.cell.specs.Faults.{Refusal, numbers}
 use Rattle.cell.specs.Logs.{Games, own, Log, Event, Told, asked, offered, reported, to_offer, to_report, states, phase, waits, signals_shown, ranks_shown, Offering, first, run, answers, all_answers, phase_after, taken}
-use Rattle.cell.specs.Law.{Law, InTime}
+use Rattle.cell.specs.Law.{Law, Nears, InTime}
 use Rattle.cell.specs.Running.{Good}
 
 -- a result as the log has it: each fault by its number, its values and its side
@@ -114,13 +114,16 @@ module _ {A B : Type 0} (m0 : A → Model) (k0 : A → Marks) (m1 : B → Model)
     pub good : Good (games c) (shown c.mode c.copies)
 
   -- what a call does to a cell: the answer is that of the log that the cell shows, so that of the log after any calls that it tells
-  -- of, and it then tells of those calls and this one
+  -- of; it then tells of those calls and this one, the law holds after them, and no side is further from its goal
   pub record Heard (before : Cell A B) (e : Event) (a : Told) (next : Cell A B) : Type 0 where
     pub first_game : next.first ≡ before.first
     pub second_game : next.second ≡ before.second
     pub by_shown : a ≡ answers (games before) (shown before.mode before.copies) e
     pub answered : (events : List Event) → Tells events before → a ≡ answers (games before) (run (games before) events (first (games before))) e
     pub tells : (events : List Event) → Tells events before → Tells (events ++ e ∷ []) next
+    pub law : (events : List Event) → Tells events before → Law (games before) (events ++ e ∷ [])
+    pub nears : (events : List Event) → Tells events before → is_some (shown before.mode before.copies).force ≡ true →
+        Nears (games before) (shown before.mode before.copies) e 0 × Nears (games before) (shown before.mode before.copies) e 1
 
   -- what a question is answered
   pub record Answered (c : Cell A B) (q : Question) (a : Told) : Type 0 where

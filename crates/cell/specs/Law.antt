@@ -8,7 +8,7 @@ use Rattle.reading.specs.Records.{parts_in, rank_at}
 use Rattle.checking.specs.Controllers.{plan_in, Kept}
 use Rattle.checking.specs.Checks.{Ranked}
 use Rattle.cell.specs.Faults.{Refusal}
-use Rattle.cell.specs.Logs.{Games, Log, Event, Told, offered, reported, asked, to_offer, to_report, states, phase, waits, signals_shown, ranks_shown, Offering, own, first, signals, ranks, moves, answers_report, run, all_answers}
+use Rattle.cell.specs.Logs.{Games, Log, Event, Told, offered, reported, asked, to_offer, to_report, states, phase, waits, signals_shown, ranks_shown, Offering, own, first, signals, ranks, moves, answers_report, answers, after, run, all_answers}
 
 -- a side can go over to its new record: it keeps the present state in phase 0, at a rank that is not above the present one
 pub record GoesOver (l : Log) (o : Offering) (side : ℕ) : Type 0 where
@@ -113,6 +113,10 @@ tick (ranks_shown r) = 0
 unfoldable pub ticks : List Told → ℕ
 ticks [] = 0
 ticks (a ∷ given) = tick a + ticks given
+
+-- a call brings a side nearer: unless its machine is at a goal its rank falls if a tick passes, and does not rise
+abbrev pub Nears : Games → Log → Event → ℕ → Type 0
+Nears g l e side = at_goal g l side ≡ false → own side (ranks (after g l e)) + tick (answers g l e) ≤ own side (ranks l)
 
 -- a rank comes true: after some calls an offer is in force; if as many ticks pass with the later calls as a side's rank then says, its
 -- machine is at a goal after some first part of these, or was when they began
