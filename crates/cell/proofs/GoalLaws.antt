@@ -131,9 +131,18 @@ nears g l e good on = (
   nearer_in g 1 (λ a o h. second_nearer g o a h) (λ a o h. second_there g o a h) l.at l.force good on e,
 )
 
-pub in_time : (g : Games) (events : List Event) → ((k : ℕ) → Good g (run g (take k events) (first g))) → (n : ℕ) → InTime g (take n events) (drop n events) 0 × InTime g (take n events) (drop n events) 1
-in_time g events good n =
-    let rest = later g n events (first g) good in (
-      reached g 0 (λ a o h. first_nearer g o a h) (λ a o h. first_there g o a h) (drop n events) (run g (take n events) (first g)) rest,
-      reached g 1 (λ a o h. second_nearer g o a h) (λ a o h. second_there g o a h) (drop n events) (run g (take n events) (first g)) rest,
+-- and so after every first part of some first part
+cut : (g : Games) (m : ℕ) (events : List Event) (l : Log) → ((k : ℕ) → Good g (run g (take k events) l)) → (k : ℕ) → Good g (run g (take k (take m events)) l)
+unfolding run
+cut g zero events l good zero = good 0
+cut g zero events l good (suc k) = good 0
+cut g (suc m) [] l good k = good k
+cut g (suc m) (e ∷ es) l good zero = good 0
+cut g (suc m) (e ∷ es) l good (suc k) = cut g m es (after g l e) (λ j. good (suc j)) k
+
+pub in_time : (g : Games) (events : List Event) → ((k : ℕ) → Good g (run g (take k events) (first g))) → (n m : ℕ) → InTime g (take n events) (take m (drop n events)) 0 × InTime g (take n events) (take m (drop n events)) 1
+in_time g events good n m =
+    let rest = cut g m (drop n events) (run g (take n events) (first g)) (later g n events (first g) good) in (
+      reached g 0 (λ a o h. first_nearer g o a h) (λ a o h. first_there g o a h) (take m (drop n events)) (run g (take n events) (first g)) rest,
+      reached g 1 (λ a o h. second_nearer g o a h) (λ a o h. second_there g o a h) (take m (drop n events)) (run g (take n events) (first g)) rest,
     )

@@ -114,7 +114,7 @@ module _ {A B : Type 0} (m0 : A → Model) (k0 : A → Marks) (m1 : B → Model)
     pub good : Good (games c) (shown c.mode c.copies)
 
   -- what a call does to a cell: the answer is that of the log that the cell shows, so that of the log after any calls that it tells
-  -- of; it then tells of those calls and this one, the law holds after them, and no side is further from its goal
+  -- of; it then tells of those calls and this one, and the law holds after them; and the call brings each side nearer to its goal
   pub record Heard (before : Cell A B) (e : Event) (a : Told) (next : Cell A B) : Type 0 where
     pub first_game : next.first ≡ before.first
     pub second_game : next.second ≡ before.second
@@ -137,11 +137,11 @@ module _ {A B : Type 0} (m0 : A → Model) (k0 : A → Marks) (m1 : B → Model)
     pub tells : Tells [] c
 
 -- a run of calls, put to a cell just made over two games: the answers are the log's, one for one; after every first part of the calls
--- the law holds, and the ranks there come true in the rest of them
+-- the law holds, and the ranks there come true in any calls right after it
 pub record Replayed (g : Games) (events : List Event) (given : List Told) : Type 0 where
   pub answered : given ≡ all_answers g events (first g)
   pub law : (n : ℕ) → Law g (take n events)
-  pub in_time : (n : ℕ) → InTime g (take n events) (drop n events) 0 × InTime g (take n events) (drop n events) 1
+  pub in_time : (n m : ℕ) → InTime g (take n events) (take m (drop n events)) 0 × InTime g (take n events) (take m (drop n events)) 1
 
 -- what is replayed into a buffer: as many calls as it has room for, their answers at its front, and the rest of it unchanged
 pub record Fills (g : Games) (events : List Event) (old new : List Answer) (count : ℕ) : Type 0 where

@@ -114,12 +114,12 @@ unfoldable pub ticks : List Told → ℕ
 ticks [] = 0
 ticks (a ∷ given) = tick a + ticks given
 
--- a call brings a side nearer: unless its machine is at a goal its rank falls if a tick passes, and does not rise
+-- a call brings a side nearer: unless its machine is at a goal its rank falls if a tick passes, and does not rise if none does
 abbrev pub Nears : Games → Log → Event → ℕ → Type 0
 Nears g l e side = at_goal g l side ≡ false → own side (ranks (after g l e)) + tick (answers g l e) ≤ own side (ranks l)
 
--- a rank comes true: after some calls an offer is in force; if as many ticks pass with the later calls as a side's rank then says, its
--- machine is at a goal after some first part of these, or was when they began
+-- a rank comes true: after some calls an offer is in force; if as many ticks pass with the calls right after them as a side's rank then
+-- says, its machine is at a goal after some first part of these, or was when they began
 abbrev pub InTime : Games → List Event → List Event → ℕ → Type 0
 InTime g before later side =
     is_some (run g before (first g)).force ≡ true

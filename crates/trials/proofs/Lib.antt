@@ -5,5 +5,6 @@ pub mod SearchingShown
 pub mod Steps
 pub mod ReplayingShown
 pub mod WitnessBay
+pub mod Meeting
 pub mod Witnessed
 pub mod CellExamples

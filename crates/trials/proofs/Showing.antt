@@ -26,7 +26,7 @@ only (suc (suc (suc zero))) e = refl
 only (suc (suc (suc (suc t)))) e = absurd (far (suc (suc (suc (suc t)))) (omega arith) e)
 
 pub shown : WatchedToggle
-shown = record { states = refl; start = refl; goals = (refl, refl); no_goals = (refl, refl); moves = refl; only = only }
+shown = record { accepted = refl; states = refl; start = refl; goals = (refl, refl); no_goals = (refl, refl); moves = refl; only = only }
 
 pub signing_shown : Signing
 signing_shown = record { signs = refl; too_far = refl }

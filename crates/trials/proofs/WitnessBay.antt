@@ -56,7 +56,7 @@ entry_low i h = ltb-true _ _ (all_at 8 (λ j. ltb (get_or entries j 0) 2) refl i
 abbrev some_table : PhaseTable
 some_table = record { sizes = sizes; entries = (table_in table).entries; closed = λ i. appended_below entries 120 2 (omega arith) entry_low i }
 
-same : (b : Bool) → implies b b ≡ true
+pub same : (b : Bool) → implies b b ≡ true
 same true = refl
 same false = refl
 

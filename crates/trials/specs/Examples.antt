@@ -1,4 +1,5 @@
 -- All shown examples together, each told from the definitions alone.
+use Rattle.trials.specs.Toggles.{Met}
 use Rattle.trials.specs.Shown.{WatchedToggle, Signing}
 use Rattle.trials.specs.Checks.{Checking}
 use Rattle.trials.specs.Solutions.{Solving}
@@ -12,6 +13,9 @@ pub record Examples : Type 0 where
   pub watched_toggle : WatchedToggle
   -- signing on one phase with two signals each way
   pub signing : Signing
+  -- two toggles can meet, on signal 1 of both sides and on both signals
+  pub one_signal : Met 2
+  pub both_signals : Met 3
   -- checking three records of the watched toggle
   pub checking : Checking
   -- solving it under one signal, and under both

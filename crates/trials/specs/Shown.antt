@@ -3,11 +3,13 @@ use Rattle.std.specs.Prelude.{◌≡◌, ℕ, true, false, Some, None}
 use Rattle.reading.specs.Sides.{both}
 use Rattle.games.specs.Machines.{goal_in}
 use Rattle.games.specs.declared.deal.Terms.{Terms}
+use Rattle.games.specs.WatchedSheets.{sheets_fault}
 use Rattle.games.specs.Signings.{signing_fault}
-use Rattle.trials.specs.Toggles.{watched_toggle, toggle_marks}
+use Rattle.trials.specs.Toggles.{toggle, rule, watched_toggle, toggle_marks}
 
--- the watched toggle has 4 states, start 0 and goals 1 and 3; under signals 1 and 1 state 0 moves to 3 only
+-- both sheets of the toggle are accepted; watched it has 4 states, start 0 and goals 1 and 3; under signals 1 and 1 state 0 moves to 3 only
 pub record WatchedToggle : Type 0 where
+  pub accepted : sheets_fault toggle rule ≡ None
   pub states : watched_toggle.states ≡ 4
   pub start : watched_toggle.start ≡ 0
   pub goals : (goal_in watched_toggle toggle_marks 1 ≡ true) × (goal_in watched_toggle toggle_marks 3 ≡ true)
@@ -15,7 +17,7 @@ pub record WatchedToggle : Type 0 where
   pub moves : watched_toggle.move 0 1 1 3 ≡ true
   pub only : (t : ℕ) → watched_toggle.move 0 1 1 t ≡ true → t ≡ 3
 
--- the same terms for both sides: a promise and a reliance
+-- a side's terms: a promise and a reliance
 abbrev pub terms : ℕ → ℕ → Terms
 terms promise reliance = record { promise = promise; reliance = reliance }
 

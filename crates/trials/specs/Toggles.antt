@@ -40,6 +40,10 @@ pub record Meets (set : ℕ) (t : PhaseTable) (d : Deal) : Type 0 where
   pub one_phase : OnePhase t
   pub dealt : Dealt t.sizes (terms_of (both set set)) d
 
+-- there are such a table and such a deal
+abbrev pub Met : ℕ → Type 0
+Met set = (t : PhaseTable) × (d : Deal) × Meets set t d
+
 -- a record of four states and one phase that chooses signal 1 everywhere, by its ranks
 abbrev pub ranked : ℕ → ℕ → ℕ → ℕ → List ℕ
 ranked r0 r1 r2 r3 = 4 ∷ 0 ∷ 1 ∷ 2 ∷ 1 ∷ 1 ∷ 1 ∷ 1 ∷ r0 ∷ 0 ∷ r1 ∷ 0 ∷ r2 ∷ 0 ∷ r3 ∷ 0 ∷ []
