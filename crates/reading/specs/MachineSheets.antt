@@ -32,15 +32,23 @@ sheet_in xs = record {
 -- the sheet that was read
 abbrev pub sheet_of : MachineSheet → Sheet
 sheet_of s = record {
-  states = s.frame.states;
-  own = s.frame.own;
-  partner = s.frame.partner;
-  start = s.frame.start;
-  moves = s.moves;
-  labels = s.labels.now;
-  keys = s.keys.now;
-  targets = s.targets.now;
+  states = s.listed.frame.states;
+  own = s.listed.frame.own;
+  partner = s.listed.frame.partner;
+  start = s.listed.frame.start;
+  moves = s.listed.moves;
+  labels = s.listed.labels.now;
+  keys = s.listed.keys.now;
+  targets = s.listed.targets.now;
 }
+
+-- the sizes that stand open in a sheet are those that were read
+pub record SizesRead (s : MachineSheet) : Type 0 where
+  pub states : s.states ≡ (sheet_of s).states
+  pub own : s.own ≡ (sheet_of s).own
+  pub partner : s.partner ≡ (sheet_of s).partner
+  pub start : s.start ≡ (sheet_of s).start
+  pub moves : s.moves ≡ (sheet_of s).moves
 
 -- the key of a move: (s × k + own) × m + partner
 abbrev pub key_at : Sheet → ℕ → ℕ

@@ -38,6 +38,18 @@ impl Frame {
 /// A machine sheet that was read: its sizes, and the parts of the bytes that hold labels, keys and targets.
 #[derive(Clone, Copy)]
 pub struct MachineSheet<'a> {
+    // plain numbers for whoever holds the sheet: no promise rests on them, and every question is answered whatever they are
+    pub states: u16,
+    pub own: u8,
+    pub partner: u8,
+    pub start: u16,
+    pub moves: u16,
+    listed: Listed<'a>,
+}
+
+/// What the bytes of a sheet hold, and what is known of it.
+#[derive(Clone, Copy)]
+struct Listed<'a> {
     frame: Frame,
     moves: u16,
     // parallel parts, as the format has them: the sheet copies nothing
@@ -61,22 +73,22 @@ pub struct Move {
 impl<'a> MachineSheet<'a> {
     /// How large the machine is, and where it starts.
     pub fn frame(&self) -> Frame
-        ensures { result ≡ self.now.frame }
+        ensures { result ≡ self.now.listed.frame }
     {
-        self.frame
+        self.listed.frame
     }
 
     /// How many moves the sheet lists.
     pub fn moves(&self) -> u16
-        ensures { result ≡ self.now.moves }
+        ensures { result ≡ self.now.listed.moves }
     {
-        self.moves
+        self.listed.moves
     }
 
     /// The very part of the bytes that holds the labels, one byte a state.
     pub fn labels(&self) -> &'a [u8]
-        ensures { result ≡ self.now.labels }
+        ensures { result ≡ self.now.listed.labels }
     {
-        self.labels
+        self.listed.labels
     }
 }

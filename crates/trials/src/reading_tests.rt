@@ -79,6 +79,26 @@ fn machine_says(rt: HostRuntime) -> Result<(), Fail> {
 }
 
 #[test]
+fn machine_sizes_are_plain_numbers(rt: HostRuntime) -> Result<(), Fail> {
+    let Ok(sheet) = MachineSheet::read(&TOGGLE) else {
+        return Err(Fail::new("refused"));
+    };
+    assert_eq!(rt;
+        (sheet.states, sheet.own, sheet.partner, sheet.start),
+        (2, 2, 2, 0)
+    );
+    assert_eq!(rt; sheet.moves, 8);
+    // set on a copy, they change no answer
+    let mut copy = sheet;
+    copy.states = 1;
+    copy.moves = 0;
+    assert_eq!(rt; (copy.states, copy.moves), (1, 0));
+    assert_eq!(rt; (copy.label(1), copy.entry(3).target), (1, 1));
+    assert_eq!(rt; (copy.labels().len(), copy.moves()), (2, 8));
+    Ok(())
+}
+
+#[test]
 fn marks(rt: HostRuntime) -> Result<(), Fail> {
     let mut bytes = [0; 64];
     bytes[0] = 5;

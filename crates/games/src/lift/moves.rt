@@ -1,4 +1,4 @@
-ghost use Rattle.std.specs.Prelude.{◌*◌, ◌≡◌, is_ok, IfOk, Decides, OnOk};
+ghost use Rattle.std.specs.Prelude.{◌*◌, ◌<◌, ◌≡◌, is_ok, IfOk, Decides, OnOk};
 ghost use Rattle.reading.specs.Faults.{told};
 ghost use Rattle.games.specs.Machines.{in_range};
 ghost use Rattle.games.specs.Lifts.{lift, rises, sinks, flips, lift_fault, Sizes, Steps};
@@ -11,22 +11,22 @@ use reading::faults::{ReadFault, check};
 /// Empty on floor 0.
 const START: u16 = 0;
 
+// Both steps ask for states of a lift: sums of 16 bits, which hold of no others, are tested many at a time.
+
 /// One floor up; an empty lift may also coast up two.
 fn goes_up(state: u16, next: u16) -> bool
+    requires { state < 64 }
     ensures { result ≡ rises state next }
 {
-    match next.checked_sub(state) {
-        Some(2) => true,
-        Some(4) => state % 2 == 0,
-        _ => false,
-    }
+    next == state + 2 || state % 2 == 0 && next == state + 4
 }
 
 /// One floor down.
 fn goes_down(state: u16, next: u16) -> bool
+    requires { next < 64 }
     ensures { result ≡ sinks state next }
 {
-    state.checked_sub(next) == Some(2)
+    state == next + 2
 }
 
 impl Lift {

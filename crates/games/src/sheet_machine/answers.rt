@@ -7,12 +7,31 @@ use crate::machine::Machine;
 use crate::sheet_machine::SheetMachine;
 use reading::machine_sheet::{Frame, Move};
 
+/// Lists of so many moves are searched from the front, which takes less time there than by halves.
+const SHORT: usize = 8;
+
+/// Whether a move is in a list, searched from the front.
+fn scan(moves: &[Move], key: u16, target: u16) -> bool
+    ensures { result ≡ listed moves.now key target }
+{
+    for m in moves {
+        if m.key == key && m.target == target {
+            return true;
+        }
+    }
+    false
+}
+
 /// Whether a move is in the list.
 fn lists(moves: &[Move], key: u16, target: u16) -> bool
     requires { Ascending moves.now }
     ensures { result ≡ listed moves.now key target }
 {
-    moves.binary_search(&Move { key, target }).is_ok()
+    if moves.len() <= SHORT {
+        scan(moves, key, target)
+    } else {
+        moves.binary_search(&Move { key, target }).is_ok()
+    }
 }
 
 impl Machine for SheetMachine {

@@ -22,8 +22,8 @@ fn copy_labels(labels: &mut Vec<u8>, source: &[u8])
 
 /// Replaces a list of moves, for which there is room.
 fn copy_moves(moves: &mut Vec<Move>, sheet: &MachineSheet)
-    requires { sheet.now.moves ≤ vec_capacity moves.old }
-    ensures items { moves.new.items ≡ map (move_at (sheet_of sheet.now)) (range_with_len 0 sheet.now.moves) }
+    requires { (sheet_of sheet.now).moves ≤ vec_capacity moves.old }
+    ensures items { moves.new.items ≡ map (move_at (sheet_of sheet.now)) (range_with_len 0 (sheet_of sheet.now).moves) }
     ensures room { vec_capacity moves.old ≤ vec_capacity moves.new }
 {
     moves.clear();
