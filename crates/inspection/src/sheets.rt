@@ -19,9 +19,9 @@ use std::fmt;
 /// Longer input is refused unread.
 pub const LIMIT: usize = 40_000;
 
-/// A sheet that was read; its `Display` says what it means, under its title.
+/// A sheet that is held; its `Display` says what it means, as it stands under its title.
 #[derive(Clone, Copy)]
-enum Sheet<'a> {
+pub enum Sheet<'a> {
     Machine(MachineSheet<'a>),
     Marks(MarkSheet),
     Rule(RuleSheet),

@@ -1,7 +1,8 @@
 use crate::samples::{RULE, TOGGLE};
 use inspection::kinds::{Kind, Request};
 use inspection::machines::{lift, product};
-use inspection::sheets::inspect;
+use inspection::sheets::{Sheet, inspect};
+use reading::mark_sheet::MarkSheet;
 use std::alloc::Global;
 use std::process::Abort;
 use std::test::Fail;
@@ -59,6 +60,14 @@ goals (2):
    1   3
 ";
     says(&rt, rt.alloc(), Kind::Marks(4), &marks(0, 0b1010), text)
+}
+
+#[test]
+fn held_sheet(rt: HostRuntime) -> Result<(), Fail> {
+    let sheet = Sheet::Marks(MarkSheet::new(5));
+    let text = sheet.to_string(rt.alloc())?;
+    assert_eq!(rt; text.as_str(), "\nforbidden: none\ngoals: none\n");
+    Ok(())
 }
 
 #[test]

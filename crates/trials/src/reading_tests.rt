@@ -91,10 +91,18 @@ fn machine_sizes_are_plain_numbers(rt: HostRuntime) -> Result<(), Fail> {
     // set on a copy, they change no answer
     let mut copy = sheet;
     copy.states = 1;
+    copy.own = 4;
+    copy.partner = 3;
+    copy.start = 9;
     copy.moves = 0;
-    assert_eq!(rt; (copy.states, copy.moves), (1, 0));
+    assert_eq!(rt;
+        (copy.states, copy.own, copy.partner, copy.start),
+        (1, 4, 3, 9)
+    );
+    assert_eq!(rt; copy.moves, 0);
     assert_eq!(rt; (copy.label(1), copy.entry(3).target), (1, 1));
     assert_eq!(rt; (copy.labels().len(), copy.moves()), (2, 8));
+    assert_eq!(rt; copy.frame(), sheet.frame());
     Ok(())
 }
 

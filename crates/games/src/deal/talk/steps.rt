@@ -34,6 +34,7 @@ fn check_gaps(terms: &Sides<Terms>, phases: u8) -> Result<(), TalkFault>
 // Each step is a type of its own, with a `close` of its own: no step can be taken twice or out of turn.
 impl Talk {
     /// A talk on a table's sizes.
+    #[tactic(auto, using(crate::proofs::SizesLaws::same_sizes))]
     pub fn open(table: &PhaseTable) -> Talk
         ensures { result.sizes ≡ table.now.sizes }
     {
